@@ -94,7 +94,7 @@ front-no-two r (suc (suc zero) ∷ ts) (h ∷ hs) s = absurd (omega arith)
 front-no-two r (suc (suc (suc t)) ∷ ts) hs s = absurd s
 
 pub proper-of-scan : (ts hs : List ℕ) → Scan ts hs → length ts ≤ 125536 → nodeCount ts ≤ 30000 → edgeCount ts ≤ 65535 → Proper ts hs
-unfolding rootsFirst balanced limits shadowsSeen nodeCount
+unfolding rootsFirst balanced limits shadowsSeen nodeCount places rank shadowAt
 proper-of-scan ts hs s few n m =
     let r = words-of ts hs s in
     let a : List ℕ = r .last .0 in

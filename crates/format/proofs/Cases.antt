@@ -5,37 +5,47 @@ use mathlib.Core.Bool.{Bool, true}
 use Prim.Native.String.{String}
 use mathlib.Core.List.{List, [], _∷_, _++_, map}
 use lib.ListN.{length, take, replicate}
-use Rattle.format.specs.Lists.{every, same, join}
-use Rattle.format.specs.Table.{Read, faulty, graph, readTable}
-use Rattle.format.specs.Level.{Walk, walk}
-use Rattle.format.specs.Trits.{trytes}
-use Rattle.format.specs.Image.{bytes, nodeCount, markWords, markedNodes, starts, grouped}
-use Rattle.format.specs.Batch.{batchOutcome}
-use Rattle.format.specs.Listing.{text, newline, listingText}
-use Rattle.format.specs.Packing.{PackOutcome, packOutcome}
+use Rattle.format.specs.Lists.{every, same, join, sumOf, numberIn, gather, spread}
+use Rattle.format.specs.Table.{Read, faulty, graph, readTable, operandsOf, runs, words, word, readOperands, readNodes, readRoots, readGraph}
+use Rattle.format.specs.Level.{Walk, walk, see, seeAll, visit, start, turns, levelOrder, reached}
+use Rattle.format.specs.Trits.{trytes, rank, places, select, untrytes, tryteCount}
+use Rattle.format.specs.Image.{bytes, nodeCount, markWords, markedNodes, starts, grouped, fromBytes, rootCount, edgeCount, shadowAt, marked, marks, group, pair, pairs, markSamples, section1, section2, section3, section4, section5, section6, section7, section8, section9, given, image}
+use Rattle.format.specs.Batch.{batchOutcome, tallyHolds, batchFault}
+use Rattle.format.specs.Listing.{text, newline, listingText, decimal, operandText, userText, nodeLine, countLine, listing, refusal, tableText, listingOutcome}
+use Rattle.format.specs.Packing.{PackOutcome, packOutcome, imageOf, packFault}
+use Rattle.format.specs.Edges.{operandAt, edgeAt, edgeList, operandEdges, useEdges}
+use Rattle.format.specs.Proper.{bytesLow, padded, rootsFirst, balanced, grown, limits, shadowsSeen, sectionFault, tritsOf, contentsFault1, fault1, fault2, shadowsOf, after2, givenFault, checkGiven, checkImage}
+use Rattle.format.specs.Unpack.{unpack, unpackOutcome}
+use Rattle.format.specs.Renumbering.{renumbered}
+use Rattle.format.specs.Question.{tritAnswer, rankAnswer, selectAnswer, operandCount, operandAnswer, useCount, useAnswer, answer}
 
-abbrev walkOf : Read → Walk
-unfolding walk
+-- the definitions, all of them, are computed with
+computed : Unit {0}
+unfolding sumOf numberIn gather spread operandsOf runs words word readOperands readNodes readRoots readGraph readTable see seeAll visit start turns walk levelOrder reached rank places select trytes untrytes tryteCount bytes fromBytes nodeCount rootCount edgeCount shadowAt marked marks markWords group grouped markedNodes starts pair pairs markSamples section1 section2 section3 section4 section5 section6 section7 section8 section9 given image imageOf packFault packOutcome bytesLow padded rootsFirst balanced grown limits shadowsSeen sectionFault tritsOf contentsFault1 fault1 fault2 shadowsOf after2 givenFault checkGiven checkImage operandAt edgeAt edgeList operandEdges useEdges tritAnswer rankAnswer selectAnswer operandCount operandAnswer useCount useAnswer answer unpack unpackOutcome tallyHolds batchFault batchOutcome decimal operandText userText nodeLine countLine listing refusal tableText listingText listingOutcome renumbered
+computed = tt
+
+walkOf : Read → Walk
+unfolding computed
 walkOf (faulty f) = record { queue = []; trits = []; shadows = [] }
 walkOf (graph g) = walk g
 
 -- trits and H
 trits : List ℕ → List ℕ
-unfolding readTable walk
+unfolding computed
 trits table = walkOf (readTable table) .trits
 
 shadows : List ℕ → List ℕ
-unfolding readTable walk
+unfolding computed
 shadows table = walkOf (readTable table) .shadows
 
 -- what packing leaves of buffers that hold nines
 packed : List ℕ → PackOutcome
-unfolding packOutcome
+unfolding computed
 packed table = packOutcome table (replicate 8 9) (replicate 24 9) (replicate 105 9)
 
 -- what a batch on the packed bytes leaves of an answer buffer of nines that is one word longer than the questions
 asked : List ℕ → List ℕ → List ℕ
-unfolding packed batchOutcome
+unfolding computed packed
 asked table questions =
     let o = packed table in
     batchOutcome (take (o .returned .value) (o .image)) questions (replicate (length questions + 1) 9) (record { asked = 0; answered = 0; refused = 0 }) .words
@@ -58,7 +68,7 @@ abbrev _gives_ : List ℕ → List ℕ → Bool
 got gives want = same got want
 
 pub cases : List Bool
-unfolding trits shadows packed asked trytes nodeCount markWords markedNodes starts grouped
+unfolding computed trits shadows packed asked
 cases =
     -- 0 0: trits 0, H empty, image of 55 bytes
     (trits (0 ∷ 0 ∷ []) gives 0 ∷ [])
@@ -107,7 +117,7 @@ cases =
     ∷ []
 
 pub cases-hold : every (λ b. b) cases ≡ true
-unfolding cases
+unfolding computed cases walkOf
 cases-hold = refl
 
 -- the listing of the drawn graph, as it stands in document 01; a table that is refused; 61
@@ -125,5 +135,5 @@ pub listing-holds : (listingText (bytes 2 drawn) ≡ join (map (λ (l : String).
     × (listingText (bytes 2 (1 ∷ 0 ∷ 0 ∷ [])) ≡ text "refused 8" ++ newline)
     × (listingText (7 ∷ []) ≡ text "refused 61" ++ newline)
     × (listingText (replicate 8002 0) ≡ text "refused 61" ++ newline)
-unfolding listingText bytes
+unfolding computed
 listing-holds = (refl, refl, refl, refl)

@@ -12,7 +12,7 @@ use lib.Seq.{take-at, drop-at, length-take-le, getD-drop}
 use borrow.Author.Tests.{eqb-true, eq-eqb, le-leb, leb-true, lt-leb}
 use Rattle.format.specs.Lists.{run, same, countIn, up, horner, spread, Below}
 use Rattle.format.specs.Trits.{rank, places, trytes, untrytes}
-use Rattle.format.specs.Image.{leBytes, bytes, fromBytes, nodeCount, marked, markedNodes, Section, section2, given, written, image, shadowAt}
+use Rattle.format.specs.Image.{leBytes, bytes, fromBytes, nodeCount, marked, markedNodes, Section, section2, given, written, image, shadowAt, section3, section1, section4, section5, section6, section7, section8, section9}
 use Rattle.format.specs.Faults.{fault, _then_}
 use Rattle.format.specs.Proper.{bytesLow, padded, rootsFirst, balanced, grown, limits, shadowsSeen, countOf, contentsOf, restOf, sectionFault, size1, size2, after1, after2, contentsFault1, fault1, fault2, checkGiven, checkImage, tritsOf, shadowsOf, Proper, SectionOrder}
 use Rattle.format.specs.Table.{Node, isNode}
@@ -109,7 +109,7 @@ Small [] = Unit {0}
 Small (s ∷ ss) = (s .entries < 256 ^ 4) × Small ss
 
 pub given-passes : (ss : List Section) → Small ss → checkGiven ss (written ss) ≡ 0
-unfolding checkGiven
+unfolding checkGiven Rattle.format.specs.Proper.givenFault sectionFault
 given-passes [] h = refl
 given-passes (s ∷ ss) h =
     let c : ℕ = s .entries in
@@ -123,7 +123,7 @@ given-passes (s ∷ ss) h =
     ∙ given-passes ss (h .1)
 
 pub given-passed : (ss : List Section) (b : List ℕ) → Below 256 b → checkGiven ss b ≡ 0 → b ≡ written ss
-unfolding checkGiven
+unfolding checkGiven sectionFault Rattle.format.specs.Proper.givenFault
 given-passed [] [] low e = refl
 given-passed [] (x ∷ b) low e =
     let z : suc (length b) ≡ 0 = eqb-true (suc (length b)) 0 (fault-zero 26 (eqb (suc (length b)) 0) (lit< tt) e) in
@@ -213,7 +213,7 @@ shadows-small trits H p j h = omega (arith, shadow-nodes trits H (p .paired) (p 
 -- ---- an image of proper trits and shadows is passed
 
 given-small : (trits H : List ℕ) → Proper trits H → Small (given trits H)
-unfolding given markedNodes
+unfolding given markedNodes section3 section4 section5 section6 section7 section8 section9 nodeCount
 given-small trits H p =
     let n : nodeCount trits ≤ 30000 = limits-nodes trits (p .in-limits) in
     let few : length trits ≤ 125536 = p .length-high in
@@ -233,14 +233,14 @@ module _ (trits H : List ℕ) (p : Proper trits H) where
   rest2 = written (given trits H)
 
   count1 : countOf b ≡ length trits
-  unfolding image
+  unfolding image Rattle.format.specs.Image.section1
   count1 = count-back (length trits) (trytes trits) rest1 (omega (arith, p .length-high))
 
   full1 : size1 b ≡ length (trytes trits)
   full1 = ap (λ (L : ℕ). up L 5) count1 ∙ sym (length-trytes trits)
 
   contents1 : contentsOf (size1 b) b ≡ trytes trits
-  unfolding image
+  unfolding image Rattle.format.specs.Image.section1 trytes
   contents1 = contents-back (length trits) (trytes trits) rest1 (size1 b) full1
 
   pub trits-of-image : tritsOf b ≡ trits
@@ -248,7 +248,7 @@ module _ (trits H : List ℕ) (p : Proper trits H) where
   trits-of-image = ap₂ untrytes count1 contents1 ∙ untrytes-trytes trits (p .threes)
 
   pub after1-image : after1 b ≡ rest1
-  unfolding image
+  unfolding image Rattle.format.specs.Image.section1 trytes
   after1-image = rest-back (length trits) (trytes trits) rest1 (size1 b) full1
 
   full2 : size2 trits ≡ length (bytes 2 H)
@@ -268,7 +268,7 @@ module _ (trits H : List ℕ) (p : Proper trits H) where
 
   -- and is passed, section by section
   passes1 : fault1 b ≡ 0
-  unfolding fault1 image
+  unfolding fault1 image Rattle.format.specs.Image.section1 trytes
   passes1 =
       let l = long-enough (length trits) (trytes trits) rest1 (size1 b) full1 in
       section-passes _ (size1 b) _ b (l .0)
@@ -324,7 +324,7 @@ pub record Sound (b : List ℕ) : Type 0 where
   pub same : b ≡ image (tritsOf b) (shadowsOf b)
 
 pub image-passed : (b : List ℕ) → Below 256 b → checkImage b ≡ 0 → Sound b
-unfolding checkImage fault1 fault2 contentsFault1 image tritsOf shadowsOf after2
+unfolding checkImage fault1 fault2 contentsFault1 image tritsOf shadowsOf after2 section1 section2 fromBytes untrytes
 image-passed b low e =
     let z1 = then-zero (fault1 b) _ e in
     let z2 = then-zero (fault2 (tritsOf b) (after1 b)) _ (z1 .1) in

@@ -15,7 +15,7 @@ use Rattle.format.specs.Level.{walk, levelOrder, Reach, Counts}
 use Rattle.format.specs.Trits.{rank, select, trytes, tryteCount, tryteTable}
 use Rattle.format.specs.Image.{nodeCount, marks, markWords, markSamples, pairs, lastMultiple, ReadBack}
 use Rattle.format.specs.Packing.{imageOf, Accepted, RoomEnough, bytesOf, cleared, packLeaves, packOutcome, Kept}
-use Rattle.format.specs.Proper.{SectionOrder, checkImage, tritsOf, shadowsOf, ImageCode}
+use Rattle.format.specs.Proper.{CheckOrder, SectionOrder, checkImage, tritsOf, shadowsOf, ImageCode}
 use Rattle.format.specs.Edges.{operandOf, userOf, operandEdges, useEdges}
 use Rattle.format.specs.Question.{answer, says, Beyond, Kinds}
 use Rattle.format.specs.Answers.{done, stops, checkedNumber, answerNumbers, foundPlace, Answerable, ExactlyOne}
@@ -88,9 +88,13 @@ module _ (table order work buffer : List ℕ) where
   pub packing-kept : Kept order work buffer (packOutcome table order work buffer)
   packing-kept = promises.packing-kept table order work buffer
 
--- The image checker, section by section: "count missing (21), count wrong, contents missing (21), contents wrong".
-pub checking-order : (countFault size contentsFault : ℕ) (b : List ℕ) → SectionOrder countFault size contentsFault b
-checking-order = checks.section-order
+-- The image checker "goes section by section: count missing (21), count wrong [..], contents missing (21), contents wrong. n and m are held to 22 after
+-- section 1's own rules."
+pub checking-order : (b : List ℕ) → CheckOrder b
+checking-order = steps.check-order
+
+pub section-order : (countFault size contentsFault : ℕ) (b : List ℕ) → SectionOrder countFault size contentsFault b
+section-order = checks.section-order
 
 -- "Unpacking: 21 to 26, then 51; it writes only the table and returns its length."
 module _ (b buffer : List ℕ) where
@@ -164,11 +168,8 @@ module _ (table : List ℕ) (g : Graph) (a : Accepted table g) where
   order-once = order.order-perm g (accepting.packable table g a)
 
   -- "Every accepted table has L = n + m + c + 1 trits: n + 1 zeros, n ones, k = m + c − n twos"; L is at most 125,536
-  pub trit-counts : Counts g
-  trit-counts = order.counts g (accepting.packable table g a)
-
-  pub trit-limit : length trits ≤ 125536
-  trit-limit = accepting.proper-table table g a .length-high
+  pub trit-counts : Counts g × (length trits ≤ 125536)
+  trit-counts = (order.counts g (accepting.packable table g a), accepting.proper-table table g a .length-high)
 
   -- no entry is cut to its width: sections 2 to 9, read back, are what was written
   pub sections-read : ReadBack trits H

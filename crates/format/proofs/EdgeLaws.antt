@@ -11,7 +11,7 @@ use lib.Dec.{eqb, ltb}
 use lib.ListN.{length, getD}
 use borrow.Author.Tests.{eqb-true, eq-eqb, ne-eqb, lt-ltb, le-ltb}
 use Rattle.format.specs.Lists.{run, consIf, keep, Below, countIn}
-use Rattle.format.specs.Trits.{rank, Selected}
+use Rattle.format.specs.Trits.{rank, Selected, places}
 use Rattle.format.specs.Image.{shadowAt, group}
 use Rattle.format.specs.Edges.{operandAt, edgeAt, operandEdges, useEdges, isEdge}
 use Rattle.format.proofs.Laws.{run-add, keep-append, keep-keep, getD-other, rank-here, rank-mono, true-both}
@@ -66,14 +66,14 @@ keep-run-part f L a e ae eL before inside after =
 
 pub operandEdges-places : (trits H : List ℕ) (i : ℕ)
     → operandEdges trits H i ≡ map (edgeAt trits H) (keep (λ p. isEdge trits p && eqb (rank 0 trits p) i) (run 0 (length trits)))
-unfolding operandEdges edgeAt
+unfolding operandEdges edgeAt Rattle.format.specs.Edges.edgeList
 operandEdges-places trits H i =
     keep-map (λ e. eqb (e .user) i) (edgeAt trits H) (keep (isEdge trits) (run 0 (length trits)))
     ∙ ap (map (edgeAt trits H)) (keep-keep (λ p. eqb (rank 0 trits p) i) (isEdge trits) (run 0 (length trits)))
 
 pub useEdges-places : (trits H : List ℕ) (i : ℕ)
     → useEdges trits H i ≡ map (edgeAt trits H) (keep (λ p. isEdge trits p && eqb (operandAt trits H p) i) (run 0 (length trits)))
-unfolding useEdges edgeAt
+unfolding useEdges edgeAt Rattle.format.specs.Edges.edgeList
 useEdges-places trits H i =
     keep-map (λ e. eqb (e .operand) i) (edgeAt trits H) (keep (isEdge trits) (run 0 (length trits)))
     ∙ ap (map (edgeAt trits H)) (keep-keep (λ p. eqb (operandAt trits H p) i) (isEdge trits) (run 0 (length trits)))
@@ -138,7 +138,7 @@ twoOf : List ℕ → List ℕ → ℕ → ℕ → Bool
 twoOf trits H i p = eqb (getD trits p 0) 2 && eqb (getD H (rank 2 trits p) 0) i
 
 keep-twos : (trits H : List ℕ) (i : ℕ) → keep (twoOf trits H i) (run 0 (length trits)) ≡ group trits H i
-unfolding twoOf group
+unfolding twoOf group shadowAt places
 keep-twos trits H i =
     keep-run-cong (twoOf trits H i) (λ p. eqb (getD trits p 3) 2 && eqb (shadowAt trits H p) i) 0 (length trits)
     (λ p l u. ap (λ (x : ℕ). eqb x 2 && eqb (shadowAt trits H p) i) (getD-other trits p 0 3 (omega arith)))
@@ -154,7 +154,7 @@ module _ (trits H : List ℕ) (i r : ℕ) (three : Below 3 trits) (seen : Seen t
   useAt p = isEdge trits p && eqb (operandAt trits H p) i
 
   use-real : useAt r ≡ ltb 0 (rank 0 trits r)
-  unfolding useAt operandAt
+  unfolding useAt operandAt shadowAt
   use-real =
       let e : rank 1 trits r + 1 ≡ i = add-one (rank 1 trits r) ∙ sel .ranked in
       ap (λ (x : ℕ). ltb 0 x && ltb 0 (rank 0 trits r) && eqb (cond (eqb x 1) (rank 1 trits r + 1) (getD H (rank 2 trits r) 0)) i) (sel .holds)
@@ -169,7 +169,7 @@ module _ (trits H : List ℕ) (i r : ℕ) (three : Below 3 trits) (seen : Seen t
       go q (no h) = let h′ : suc r ≤ p = omega arith in omega (arith, rank-mono 1 trits (suc r) p h′, rank-here 1 trits r (sel .inside) (sel .holds), sel .ranked)
 
   use-other : (p : ℕ) → p < length trits → (p ≡ r → ⊥) → useAt p ≡ twoOf trits H i p
-  unfolding useAt operandAt twoOf
+  unfolding useAt operandAt twoOf shadowAt
   use-other p l d = go (getD trits p 0) refl (three p l)
     where
       F : ℕ → Bool

@@ -68,7 +68,7 @@ user-node trits H pr p l =
     omega (arith, rank-mono 0 trits p q (omega arith), rank-here 0 trits q lq z, rank-count 0 trits (suc q), zeros-ones trits (pr .is-balanced))
 
 pub operand-node : (trits H : List ℕ) → Proper trits H → (p : ℕ) → p < length trits → operandAt trits H p ≤ nodeCount trits
-unfolding operandAt nodeCount
+unfolding operandAt nodeCount shadowAt
 operand-node trits H pr p l = go (eqb (getD trits p 0) 1) refl
   where
     shadow : (j : ℕ) → Dec (suc j ≤ length H) → getD H j 0 ≤ countIn 1 trits
@@ -93,7 +93,7 @@ nodes-map n f (x ∷ xs) h zero l = h zero (suc-le-suc zero-le)
 nodes-map n f (x ∷ xs) h (suc j) l = nodes-map n f xs (λ i k. h (suc i) (suc-le-suc k)) j (le-of-suc-le-suc l)
 
 pub length-edges : (trits H : List ℕ) → Proper trits H → length (edgeList trits H) ≡ edgeCount trits
-unfolding edgeList operandEdges
+unfolding edgeList operandEdges edgeAt rank
 length-edges trits H pr =
     let n : ℕ = nodeCount trits in
     let ps : List ℕ = keep (isEdge trits) (run 0 (length trits)) in

@@ -21,6 +21,10 @@ pub fault-zero : (c : ℕ) (t : Bool) → 0 < c → fault c t ≡ 0 → t ≡ tr
 fault-zero c true p e = refl
 fault-zero c false p e = absurd (omega arith)
 
+pub fault-no : (c : ℕ) (t : Bool) → (t ≡ true → ⊥) → fault c t ≡ c
+fault-no c true h = absurd (h refl)
+fault-no c false h = refl
+
 pub then-no : (a b : ℕ) → 0 < a → (a then b) ≡ a
 then-no zero b h = absurd (not-suc-le-zero h)
 then-no (suc a) b h = refl

@@ -103,7 +103,7 @@ below-places t xs j l = place-of t xs j (subst (λ (k : ℕ). j < k) (length-pla
 
 -- section 5: places below L
 pub below-grouped : (trits H : List ℕ) (j : ℕ) → Below (length trits) (grouped trits H j)
-unfolding grouped
+unfolding grouped group places
 below-grouped trits H zero = λ i l. absurd (not-suc-le-zero l)
 below-grouped trits H (suc j) =
     subst (Below (length trits)) (sym (grouped-suc trits H j))
@@ -120,7 +120,7 @@ pair-at trits from p (suc (suc t)) lt = absurd (omega arith)
 -- zeros at 2·q, ones at 2·q + 1
 pub pairs-at : (s : ℕ) (from : ℕ → ℕ) (trits : List ℕ) (q t : ℕ) → q < length trits / s + 1 → t < 2
     → getD (pairs s from trits) (2 * q + t) 0 ≡ rank t trits (s * q) - rank t trits (from (s * q))
-unfolding pairs
+unfolding pairs pair
 pairs-at s from trits q t h lt =
     let n : ℕ = length trits / s + 1 in
     let e : take 2 (drop (2 * q) (pairs s from trits)) ≡ pair trits from (s * getD (run 0 n) q 0) =
@@ -212,18 +212,18 @@ read w at b = leNumber (take w (drop at b))
 
 module _ (trits H : List ℕ) (p : Proper trits H) where
   pub read-tryte : (i : ℕ) → i < length (trytes trits) → getD (image trits H) (4 + i) 0 ≡ getD (trytes trits) i 0
-  unfolding image
+  unfolding image section1 trytes
   read-tryte i l = byte-at [] (section2 trits H ∷ given trits H) (section1 trits H) i l
 
   pub read-shadow : (j : ℕ) → j < length H → read 2 (at2 (length trits) + 2 * j) (image trits H) ≡ getD H j 0
-  unfolding image
+  unfolding image given section1 section2 section3 section4 section5 section6 section7 section8 section9
   read-shadow j l =
       let e : start (section1 trits H ∷ []) ≡ at2 (length trits) = omega (arith, length-written (section1 trits H ∷ []), length-trytes trits) in
       ap (λ (a : ℕ). read 2 (a + 2 * j) (image trits H)) (sym e)
       ∙ entry-at (section1 trits H ∷ []) (given trits H) (section2 trits H) 2 H refl (shadows-small trits H p) j l
 
   pub read-mark-word : (i : ℕ) → i < length (markWords trits H) → read 8 (at3 (length trits) (length H) + 8 * i) (image trits H) ≡ getD (markWords trits H) i 0
-  unfolding image
+  unfolding image given section1 section2 section3 section4 section5 section6 section7 section8 section9
   read-mark-word i l =
       let pre : List Section = section1 trits H ∷ section2 trits H ∷ [] in
       let e : start pre ≡ at3 (length trits) (length H) =
@@ -232,7 +232,7 @@ module _ (trits H : List ℕ) (p : Proper trits H) where
       ∙ entry-at pre (section4 trits H ∷ section5 trits H ∷ section6 trits H ∷ section7 trits H ∷ section8 trits H ∷ section9 trits H ∷ []) (section3 trits H) 8 (markWords trits H) refl (fits3 trits H) i l
 
   pub read-start : (i : ℕ) → i < length (starts trits H) → read 4 (at4 (length trits) (length H) (nodeCount trits) + 4 * i) (image trits H) ≡ getD (starts trits H) i 0
-  unfolding image
+  unfolding image given section1 section2 section3 section4 section5 section6 section7 section8 section9
   read-start i l =
       let pre : List Section = section1 trits H ∷ section2 trits H ∷ section3 trits H ∷ [] in
       let e : start pre ≡ at4 (length trits) (length H) (nodeCount trits) =
@@ -241,7 +241,7 @@ module _ (trits H : List ℕ) (p : Proper trits H) where
       ∙ entry-at pre (section5 trits H ∷ section6 trits H ∷ section7 trits H ∷ section8 trits H ∷ section9 trits H ∷ []) (section4 trits H) 4 (starts trits H) refl (fits4 trits H (p .paired) (p .length-high)) i l
 
   pub read-place : (i : ℕ) → i < length (grouped trits H (nodeCount trits)) → read 4 (at5 (length trits) (length H) (nodeCount trits) (length (markedNodes trits H)) + 4 * i) (image trits H) ≡ getD (grouped trits H (nodeCount trits)) i 0
-  unfolding image
+  unfolding image given section1 section2 section3 section4 section5 section6 section7 section8 section9
   read-place i l =
       let pre : List Section = section1 trits H ∷ section2 trits H ∷ section3 trits H ∷ section4 trits H ∷ [] in
       let e : start pre ≡ at5 (length trits) (length H) (nodeCount trits) (length (markedNodes trits H)) =
@@ -250,7 +250,7 @@ module _ (trits H : List ℕ) (p : Proper trits H) where
       ∙ entry-at pre (section6 trits H ∷ section7 trits H ∷ section8 trits H ∷ section9 trits H ∷ []) (section5 trits H) 4 (grouped trits H (nodeCount trits)) refl (fits5 trits H (p .length-high)) i l
 
   pub read-sample6 : (i : ℕ) → i < length (pairs 65725 (λ p. 0) trits) → read 4 (at6 (length trits) (length H) (nodeCount trits) (length (markedNodes trits H)) + 4 * i) (image trits H) ≡ getD (pairs 65725 (λ p. 0) trits) i 0
-  unfolding image
+  unfolding image given section1 section2 section3 section4 section5 section6 section7 section8 section9
   read-sample6 i l =
       let pre : List Section = section1 trits H ∷ section2 trits H ∷ section3 trits H ∷ section4 trits H ∷ section5 trits H ∷ [] in
       let e : start pre ≡ at6 (length trits) (length H) (nodeCount trits) (length (markedNodes trits H)) =
@@ -259,7 +259,7 @@ module _ (trits H : List ℕ) (p : Proper trits H) where
       ∙ entry-at pre (section7 trits H ∷ section8 trits H ∷ section9 trits H ∷ []) (section6 trits H) 4 (pairs 65725 (λ p. 0) trits) refl (fits6 trits (p .length-high)) i l
 
   pub read-sample7 : (i : ℕ) → i < length (pairs 275 (lastMultiple 65725) trits) → read 2 (at7 (length trits) (length H) (nodeCount trits) (length (markedNodes trits H)) + 2 * i) (image trits H) ≡ getD (pairs 275 (lastMultiple 65725) trits) i 0
-  unfolding image
+  unfolding image given section1 section2 section3 section4 section5 section6 section7 section8 section9
   read-sample7 i l =
       let pre : List Section = section1 trits H ∷ section2 trits H ∷ section3 trits H ∷ section4 trits H ∷ section5 trits H ∷ section6 trits H ∷ [] in
       let e : start pre ≡ at7 (length trits) (length H) (nodeCount trits) (length (markedNodes trits H)) =
@@ -268,7 +268,7 @@ module _ (trits H : List ℕ) (p : Proper trits H) where
       ∙ entry-at pre (section8 trits H ∷ section9 trits H ∷ []) (section7 trits H) 2 (pairs 275 (lastMultiple 65725) trits) refl (fits7 trits) i l
 
   pub read-sample8 : (i : ℕ) → i < length (pairs 25 (lastMultiple 275) trits) → read 1 (at8 (length trits) (length H) (nodeCount trits) (length (markedNodes trits H)) + 1 * i) (image trits H) ≡ getD (pairs 25 (lastMultiple 275) trits) i 0
-  unfolding image
+  unfolding image given section1 section2 section3 section4 section5 section6 section7 section8 section9
   read-sample8 i l =
       let pre : List Section = section1 trits H ∷ section2 trits H ∷ section3 trits H ∷ section4 trits H ∷ section5 trits H ∷ section6 trits H ∷ section7 trits H ∷ [] in
       let e : start pre ≡ at8 (length trits) (length H) (nodeCount trits) (length (markedNodes trits H)) =
@@ -277,7 +277,7 @@ module _ (trits H : List ℕ) (p : Proper trits H) where
       ∙ entry-at pre (section9 trits H ∷ []) (section8 trits H) 1 (pairs 25 (lastMultiple 275) trits) refl (fits8 trits) i l
 
   pub read-mark-sample : (i : ℕ) → i < length (markSamples trits H) → read 2 (at9 (length trits) (length H) (nodeCount trits) (length (markedNodes trits H)) + 2 * i) (image trits H) ≡ getD (markSamples trits H) i 0
-  unfolding image
+  unfolding image given section1 section2 section3 section4 section5 section6 section7 section8 section9
   read-mark-sample i l =
       let pre : List Section = section1 trits H ∷ section2 trits H ∷ section3 trits H ∷ section4 trits H ∷ section5 trits H ∷ section6 trits H ∷ section7 trits H ∷ section8 trits H ∷ [] in
       let e : start pre ≡ at9 (length trits) (length H) (nodeCount trits) (length (markedNodes trits H)) =

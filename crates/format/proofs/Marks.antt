@@ -65,7 +65,7 @@ ones-below (suc w) x (suc r) h =
 
 pub marks-before : (trits H : List ℕ) (q r : ℕ) → 64 * q + r < nodeCount trits → r < 64
     → rank 1 (marks trits H) (64 * q + r) ≡ getD (markSamples trits H) q 0 + ones (getD (markWords trits H) q 0 % 2 ^ r)
-unfolding markSamples markWords
+unfolding markSamples markWords rank
 marks-before trits H q r h l =
     let ms : List ℕ = marks trits H in
     let word : ℕ = getD (markWords trits H) q 0 in
@@ -145,7 +145,7 @@ flat trits H e j q =
 
 pub starts-at : (trits H : List ℕ) → length H ≡ countIn 2 trits → Nodes (nodeCount trits) H → (j : ℕ) → j ≤ nodeCount trits
     → getD (starts trits H) (rank 1 (marks trits H) j) 0 ≡ length (grouped trits H j)
-unfolding starts markedNodes marks from before
+unfolding starts markedNodes marks from before rank
 starts-at trits H e h j l =
     let n : ℕ = nodeCount trits in
     let g : ℕ → ℕ = λ i. length (grouped trits H i) in

@@ -109,7 +109,7 @@ module _ (i : ℕ) where
         → map (operandAt ts hs) (keep mine (run q (length b))) ≡ rowAt z (cut (operandNumbers r b (drop k hs)))
 
     one-more : (b : List ℕ) → From b → (x : ℕ) → From (x ∷ b)
-    unfolding operandNumbers cut operandAt
+    unfolding operandNumbers cut operandAt Rattle.format.specs.Image.shadowAt
     one-more b ih x a q r z k e eq er ez ek = go x e
       where
         next : (x : ℕ) → ts ≡ a ++ x ∷ b → (r′ z′ k′ : ℕ) → r′ ≡ r + countIn 1 (x ∷ []) → z′ ≡ z + countIn 0 (x ∷ []) → k′ ≡ k + countIn 2 (x ∷ [])

@@ -76,7 +76,7 @@ module _ (trits H : List ℕ) where
   select-32 a b h = ap (λ (t : Bool). within 32 t (placeOr33 (select a trits b))) (lt-leb a 2 h)
 
   pub select-33 : (a b : ℕ) → a ≤ 2 → Beyond (countIn a trits) b → answer trits H 2 a b ≡ says 33 0 0
-  unfolding answer selectAnswer
+  unfolding answer selectAnswer select
   select-33 a b h k = ap₂ (λ (t : Bool) (o : Option ℕ). within 32 t (placeOr33 o)) (le-leb a 2 h) (go k)
     where
       go : Beyond (countIn a trits) b → select a trits b ≡ none

@@ -13,7 +13,7 @@ use native.Mathlib.Decide.{decLe}
 use lib.Seq.{ext-getD}
 use Rattle.format.specs.Lists.{bit, run, join, countIn, up, oneTo}
 use Rattle.format.specs.Trits.{rank, places, trytes}
-use Rattle.format.specs.Image.{leBytes, bytes, nodeCount, marked, marks, markWords, group, grouped, markedNodes, starts, pair, pairs, lastMultiple, markSamples, Section, section1, section2, given, written, image, shadowAt}
+use Rattle.format.specs.Image.{leBytes, bytes, nodeCount, marked, marks, markWords, group, grouped, markedNodes, starts, pair, pairs, lastMultiple, markSamples, Section, section1, section2, given, written, image, shadowAt, section3, section4, section5, section6, section7, section8, section9}
 use Rattle.format.proofs.Laws.{length-run, length-each, true-both, bit-le, run-snoc, join-append, length-keep-key, run-add, getD-other}
 use Rattle.format.proofs.Digits.{length-digits, length-gather, length-spread, length-blocks}
 use Rattle.format.proofs.Select.{length-places, place-of}
@@ -134,7 +134,7 @@ length-starts trits H =
     ∙ ap (λ (k : ℕ). k + 1) (length-map (markedNodes trits H) (λ i. length (grouped trits H (i - 1))))
 
 pub length-pairs : (s : ℕ) (from : ℕ → ℕ) (trits : List ℕ) → length (pairs s from trits) ≡ 2 * (length trits / s + 1)
-unfolding pairs
+unfolding pairs pair
 length-pairs s from trits =
     length-blocks 2 (λ q. pair trits from (s * q)) (λ q. refl) (run 0 (length trits / s + 1)) ∙ ap (λ (k : ℕ). 2 * k) (length-run 0 (length trits / s + 1))
 
@@ -165,7 +165,7 @@ imageLength trits H =
     9 * 4 + up L 5 + 2 * k + 8 * up n 64 + 4 * (h + 1) + 4 * k + 8 * (L / 65725 + 1) + 4 * (L / 275 + 1) + 2 * (L / 25 + 1) + 2 * up n 64
 
 pub length-image : (trits H : List ℕ) → length H ≡ countIn 2 trits → Nodes (nodeCount trits) H → length (image trits H) ≡ imageLength trits H
-unfolding image imageLength
+unfolding image imageLength given section1 section2 section3 section4 section5 section6 section7 section8 section9
 length-image trits H e h =
     length-written (section1 trits H ∷ section2 trits H ∷ given trits H)
     ∙ omega (

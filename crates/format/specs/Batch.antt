@@ -44,7 +44,6 @@ tallyHolds t q = leb (t .asked + q) 4294967295 && leb (t .answered + q) 42949672
 
 -- question words not a multiple of 3; answer buffer shorter than the questions; tally full; the image's own refusals
 unfoldable pub batchFault : List ℕ → List ℕ → List ℕ → Tally → ℕ
-unfolding tallyHolds checkImage
 batchFault image questions buffer t =
     fault 41 (eqb (length questions % 3) 0)
     then fault 42 (leb (length questions) (length buffer))
@@ -66,7 +65,6 @@ batchSettled (suc c) buffer t o = record { code = suc c; words = buffer; tally =
 
 -- "Order: 41, 42, 43, then 21 to 26, then the questions one by one."
 unfoldable pub batchOutcome : List ℕ → List ℕ → List ℕ → Tally → BatchOutcome
-unfolding batchFault answer tritsOf shadowsOf
 batchOutcome image questions buffer t =
     batchSettled (batchFault image questions buffer t) buffer t
     (batchRan (answers (tritsOf image) (shadowsOf image) questions) buffer t)

@@ -25,11 +25,9 @@ operandOf e = e .operand
 -- What stands at place p. The user is the number of zeros before it, since the operands of node i stand between the i-th zero and the
 -- next one; before the first zero it is the super-root, 0. A 1 is the next node, a 2 the next entry of H.
 unfoldable pub operandAt : List ℕ → List ℕ → ℕ → ℕ
-unfolding rank shadowAt
 operandAt trits H p = cond (eqb (getD trits p 0) 1) (rank 1 trits p + 1) (shadowAt trits H p)
 
 unfoldable pub edgeAt : List ℕ → List ℕ → ℕ → Edge
-unfolding rank operandAt
 edgeAt trits H p = record { place = p; user = rank 0 trits p; operand = operandAt trits H p; sort = getD trits p 0 }
 
 -- an edge stands at each place that holds no 0 and that is not the super-root's
@@ -37,15 +35,12 @@ abbrev pub isEdge : List ℕ → ℕ → Bool
 isEdge trits p = ltb 0 (getD trits p 0) && ltb 0 (rank 0 trits p)
 
 unfoldable pub edgeList : List ℕ → List ℕ → List Edge
-unfolding rank edgeAt
 edgeList trits H = map (edgeAt trits H) (keep (isEdge trits) (run 0 (length trits)))
 
 -- the operands of node i, in their order
 unfoldable pub operandEdges : List ℕ → List ℕ → ℕ → List Edge
-unfolding edgeList
 operandEdges trits H i = keep (λ e. eqb (e .user) i) (edgeList trits H)
 
 -- "Uses are edges in order of their place in the trits, so the real one, if any, comes first. The super-root is no user."
 unfoldable pub useEdges : List ℕ → List ℕ → ℕ → List Edge
-unfolding edgeList
 useEdges trits H i = keep (λ e. eqb (e .operand) i) (edgeList trits H)

@@ -17,11 +17,9 @@ leNumber bs = horner 256 bs
 
 -- numbers, so many bytes each, and back
 unfoldable pub bytes : ℕ → List ℕ → List ℕ
-unfolding spread
 bytes width xs = spread 256 width xs
 
 unfoldable pub fromBytes : ℕ → List ℕ → List ℕ
-unfolding gather
 fromBytes width bs = gather 256 width bs
 
 -- ---- what the trits say
@@ -40,12 +38,10 @@ unfoldable pub rootCount : List ℕ → ℕ
 rootCount trits = countIn 1 (untilZero trits)
 
 unfoldable pub edgeCount : List ℕ → ℕ
-unfolding nodeCount rootCount
 edgeCount trits = length trits - nodeCount trits - rootCount trits - 1
 
 -- the entry of H that belongs to the 2 at place p
 unfoldable pub shadowAt : List ℕ → List ℕ → ℕ → ℕ
-unfolding rank
 shadowAt trits H p = getD H (rank 2 trits p) 0
 
 -- ---- section 3: a node is marked if it occurs in H
@@ -55,44 +51,36 @@ marked H i = ltb 0 (countIn i H)
 
 -- the marks of nodes 1 to n
 unfoldable pub marks : List ℕ → List ℕ → List ℕ
-unfolding nodeCount marked
 marks trits H = map (λ i. bit (marked H i)) (oneTo (nodeCount trits))
 
 -- 64 nodes a word, node i at bit (i - 1) mod 64, spare bits 0
 unfoldable pub markWords : List ℕ → List ℕ → List ℕ
-unfolding marks gather
 markWords trits H = gather 2 64 (marks trits H)
 
 -- ---- section 5: places of the twos, grouped by node rising, then by place
 
 -- the places of node i's twos
 unfoldable pub group : List ℕ → List ℕ → ℕ → List ℕ
-unfolding shadowAt places
 group trits H i = keep (λ p. eqb (shadowAt trits H p) i) (places 2 trits)
 
 -- the groups of nodes 1 to i
 unfoldable pub grouped : List ℕ → List ℕ → ℕ → List ℕ
-unfolding group
 grouped trits H i = join (map (group trits H) (oneTo i))
 
 -- ---- section 4: first index in section 5 for each marked node, rising by node, then k
 
 unfoldable pub markedNodes : List ℕ → List ℕ → List ℕ
-unfolding nodeCount marked
 markedNodes trits H = keep (marked H) (oneTo (nodeCount trits))
 
 unfoldable pub starts : List ℕ → List ℕ → List ℕ
-unfolding markedNodes grouped
 starts trits H = map (λ i. length (grouped trits H (i - 1))) (markedNodes trits H) ++ (length H ∷ [])
 
 -- ---- sections 6 to 8: pairs, zeros then ones, before each multiple of `step`, counted from place `from p`
 
 unfoldable pub pair : List ℕ → (ℕ → ℕ) → ℕ → List ℕ
-unfolding rank
 pair trits from p = (rank 0 trits p - rank 0 trits (from p)) ∷ (rank 1 trits p - rank 1 trits (from p)) ∷ []
 
 unfoldable pub pairs : ℕ → (ℕ → ℕ) → List ℕ → List ℕ
-unfolding pair
 pairs step from trits = join (each (length trits / step + 1) (λ q. pair trits from (step * q)))
 
 -- the last multiple of d at or before p
@@ -102,7 +90,6 @@ lastMultiple d p = d * (p / d)
 -- ---- section 9: marks before each word
 
 unfoldable pub markSamples : List ℕ → List ℕ → List ℕ
-unfolding rank marks nodeCount
 markSamples trits H = each (up (nodeCount trits) 64) (λ w. rank 1 (marks trits H) (64 * w))
 
 -- ---- the image: nine sections, each after its count
@@ -113,44 +100,34 @@ pub record Section : Type 0 where
   pub contents : List ℕ
 
 unfoldable pub section1 : List ℕ → List ℕ → Section
-unfolding trytes
 section1 trits H = record { entries = length trits; contents = trytes trits }
 
 unfoldable pub section2 : List ℕ → List ℕ → Section
-unfolding bytes
 section2 trits H = record { entries = length H; contents = bytes 2 H }
 
 unfoldable pub section3 : List ℕ → List ℕ → Section
-unfolding nodeCount markWords bytes
 section3 trits H = record { entries = nodeCount trits; contents = bytes 8 (markWords trits H) }
 
 unfoldable pub section4 : List ℕ → List ℕ → Section
-unfolding markedNodes starts bytes
 section4 trits H = record { entries = length (markedNodes trits H) + 1; contents = bytes 4 (starts trits H) }
 
 unfoldable pub section5 : List ℕ → List ℕ → Section
-unfolding nodeCount grouped bytes
 section5 trits H = record { entries = length H; contents = bytes 4 (grouped trits H (nodeCount trits)) }
 
 unfoldable pub section6 : List ℕ → List ℕ → Section
-unfolding pairs bytes
 section6 trits H = record { entries = length trits / 65725 + 1; contents = bytes 4 (pairs 65725 (λ p. 0) trits) }
 
 unfoldable pub section7 : List ℕ → List ℕ → Section
-unfolding pairs bytes
 section7 trits H = record { entries = length trits / 275 + 1; contents = bytes 2 (pairs 275 (lastMultiple 65725) trits) }
 
 unfoldable pub section8 : List ℕ → List ℕ → Section
-unfolding pairs bytes
 section8 trits H = record { entries = length trits / 25 + 1; contents = bytes 1 (pairs 25 (lastMultiple 275) trits) }
 
 unfoldable pub section9 : List ℕ → List ℕ → Section
-unfolding nodeCount markSamples bytes
 section9 trits H = record { entries = up (nodeCount trits) 64; contents = bytes 2 (markSamples trits H) }
 
 -- sections 3 to 9: what sections 1 and 2 give
 unfoldable pub given : List ℕ → List ℕ → List Section
-unfolding section3 section4 section5 section6 section7 section8 section9
 given trits H =
     section3 trits H ∷ section4 trits H ∷ section5 trits H ∷ section6 trits H ∷ section7 trits H ∷ section8 trits H ∷ section9 trits H ∷ []
 
@@ -159,7 +136,6 @@ written [] = []
 written (s ∷ ss) = leBytes 4 (s .entries) ++ (s .contents ++ written ss)
 
 unfoldable pub image : List ℕ → List ℕ → List ℕ
-unfolding section1 section2 given
 image trits H = written (section1 trits H ∷ section2 trits H ∷ given trits H)
 
 -- ---- what statements say of it

@@ -22,11 +22,9 @@ enter zero v w = record { queue = w .queue ++ v ∷ []; trits = w .trits ++ 1 �
 enter (suc k) v w = record { queue = w .queue; trits = w .trits ++ 2 ∷ []; shadows = w .shadows ++ suc k ∷ [] }
 
 unfoldable pub see : ℕ → Walk → Walk
-unfolding numberIn
 see v w = enter (numberIn v (w .queue)) v w
 
 unfoldable pub seeAll : List ℕ → Walk → Walk
-unfolding see
 seeAll [] w = w
 seeAll (v ∷ vs) w = seeAll vs (see v w)
 
@@ -35,7 +33,6 @@ abbrev pub close : Walk → Walk
 close w = record { queue = w .queue; trits = w .trits ++ 0 ∷ []; shadows = w .shadows }
 
 unfoldable pub visit : Graph → ℕ → Walk → Walk
-unfolding seeAll operandsOf
 visit g v w = close (seeAll (operandsOf g v) w)
 
 -- the super-root: the roots enter the queue in order, c ones, then 0
@@ -52,22 +49,18 @@ turn g i w = taken g (drop i (w .queue)) w
 
 -- the walk after i nodes have been taken
 unfoldable pub turns : Graph → ℕ → Walk
-unfolding start visit
 turns g zero = start g
 turns g (suc i) = turn g i (turns g i)
 
 -- a node is taken at most once, so n turns are enough
 unfoldable pub walk : Graph → Walk
-unfolding turns
 walk g = turns g (nodes g)
 
 unfoldable pub levelOrder : Graph → List ℕ
-unfolding walk
 levelOrder g = walk g .queue
 
 -- every node is reached from a root: all are in the queue (refusal 8 otherwise)
 unfoldable pub reached : Graph → Bool
-unfolding levelOrder
 reached g = eqb (length (levelOrder g)) (nodes g)
 
 -- ---- what statements say of it

@@ -34,23 +34,19 @@ starred e = cond (eqb (e .sort) 2) (text "*") []
 
 -- a neighbour after a space
 unfoldable pub operandText : Edge → List ℕ
-unfolding decimal
 operandText e = text " " ++ (decimal (e .operand) ++ starred e)
 
 unfoldable pub userText : Edge → List ℕ
-unfolding decimal
 userText e = text " " ++ (decimal (e .user) ++ starred e)
 
 -- `4: 6 7 | 2 3*`
 unfoldable pub nodeLine : List ℕ → List ℕ → ℕ → List ℕ
-unfolding decimal operandText userText operandEdges useEdges
 nodeLine trits H i =
     join (
     decimal i ∷ text ":" ∷ join (map operandText (operandEdges trits H i)) ∷ text " |" ∷ join (map userText (useEdges trits H i)) ∷ newline ∷ [])
 
 -- nodes 8 edges 11 roots 1 trits 21 shadows 4 bytes 105
 unfoldable pub countLine : List ℕ → List ℕ → List ℕ
-unfolding decimal nodeCount rootCount edgeCount image
 countLine trits H =
     join (
     text "nodes " ∷ decimal (nodeCount trits)
@@ -63,23 +59,19 @@ countLine trits H =
 
 -- a first line of counts, then a line for each level number
 unfoldable pub listing : List ℕ → List ℕ → List ℕ
-unfolding countLine nodeLine nodeCount
 listing trits H = countLine trits H ++ join (map (nodeLine trits H) (oneTo (nodeCount trits)))
 
 -- a fault prints one line: refused 8
 unfoldable pub refusal : ℕ → List ℕ
-unfolding decimal
 refusal c = text "refused " ++ (decimal c ++ newline)
 
 -- what the program writes for a table: the buffers that it packs with have room enough, so that 7 and 9 do not occur
 unfoldable pub tableText : Read → List ℕ
-unfolding listing refusal walk reached
 tableText (faulty f) = refusal f
 tableText (graph g) = let w = walk g in cond (reached g) (listing (w .trits) (w .shadows)) (refusal 8)
 
 -- "Reads a table from standard input, two bytes a word, low byte first": an odd number of bytes, or more than 8,000, is 61
 unfoldable pub listingText : List ℕ → List ℕ
-unfolding refusal tableText fromBytes readTable
 listingText input = cond (eqb (length input % 2) 0 && leb (length input) 8000) (tableText (readTable (fromBytes 2 input))) (refusal 61)
 
 -- ---- the outcome: the text's length, and the text over the front of the buffer that it is written to
@@ -89,7 +81,6 @@ pub record ListingOutcome : Type 0 where
   pub buffer : List ℕ
 
 unfoldable pub listingOutcome : List ℕ → List ℕ → ListingOutcome
-unfolding listingText
 listingOutcome input buffer = record { size = length (listingText input); buffer = over (listingText input) buffer }
 
 -- what a function that returns `size` leaves, for its contract

@@ -15,7 +15,6 @@ use Rattle.format.specs.declared.Packed.{Packed}
 
 -- the image of a table
 unfoldable pub imageOf : Graph → List ℕ
-unfolding walk image
 imageOf g = image (walk g .trits) (walk g .shadows)
 
 -- a table that is accepted: it is read as g, and the roots reach every node
@@ -41,7 +40,6 @@ cleared g work = over (replicate (3 * nodes g) 0) work
 
 -- 7, 8, 9 in order
 unfoldable pub packFault : Graph → List ℕ → List ℕ → List ℕ → ℕ
-unfolding reached imageOf
 packFault g order work buffer =
     fault 7 (leb (3 * nodes g) (length work) && leb (nodes g) (length order))
     then fault 8 (reached g)
@@ -61,7 +59,6 @@ packRead (graph g) order work buffer = packSettled (packFault g order work buffe
 
 -- "Packing reads words front to back; the first fault among 1 to 5 is given, then 6, 7, 8, 9."
 unfoldable pub packOutcome : List ℕ → List ℕ → List ℕ → List ℕ → PackOutcome
-unfolding readTable levelOrder imageOf packFault
 packOutcome table order work buffer = packRead (readTable table) order work buffer
 
 -- ---- what statements say of it

@@ -21,7 +21,6 @@ bytesLow bs = every (λ x. leb x 242) bs
 
 -- zero padding: the trits of the bytes past the first L are 0
 unfoldable pub padded : ℕ → List ℕ → Bool
-unfolding spread
 padded L bs = every (eqb 0) (drop L (spread 3 5 bs))
 
 -- no 2 stands before the first zero
@@ -39,17 +38,14 @@ onesBefore trits (some p) = rank 1 trits p
 
 -- for each i up to the number of ones, at least i ones precede the i-th zero
 unfoldable pub grown : List ℕ → Bool
-unfolding rank select
 grown trits = every (λ i. leb i (onesBefore trits (select 0 trits i))) (oneTo (countIn 1 trits))
 
 -- n and m are within limits
 unfoldable pub limits : List ℕ → Bool
-unfolding nodeCount edgeCount
 limits trits = leb (nodeCount trits) 30000 && leb (edgeCount trits) 65535
 
 -- each entry of H is at least 1 and at most the number of ones before that 2
 unfoldable pub shadowsSeen : List ℕ → List ℕ → Bool
-unfolding rank places shadowAt
 shadowsSeen trits H = every (λ p. isNode (rank 1 trits p) (shadowAt trits H p)) (places 2 trits)
 
 -- ---- the checker
@@ -74,7 +70,6 @@ abbrev pub size1 : List ℕ → ℕ
 size1 b = up (countOf b) 5
 
 unfoldable pub tritsOf : List ℕ → List ℕ
-unfolding untrytes
 tritsOf b = untrytes (countOf b) (contentsOf (size1 b) b)
 
 abbrev pub after1 : List ℕ → List ℕ
@@ -82,14 +77,12 @@ after1 b = restOf (size1 b) b
 
 -- section 1: L too large (22) or 0 (23); its own rules (23); n and m are held to 22 after them
 unfoldable pub contentsFault1 : ℕ → List ℕ → ℕ
-unfolding bytesLow padded untrytes rootsFirst balanced grown limits
 contentsFault1 L bs =
     let trits : List ℕ = untrytes L bs in
     fault 23 (bytesLow bs) then fault 23 (padded L bs) then fault 23 (rootsFirst trits) then fault 23 (balanced trits) then fault 23 (grown trits)
     then fault 22 (limits trits)
 
 unfoldable pub fault1 : List ℕ → ℕ
-unfolding sectionFault contentsFault1
 fault1 b = sectionFault (fault 22 (leb (countOf b) 125536) then fault 23 (leb 1 (countOf b))) (size1 b) (contentsFault1 (countOf b) (contentsOf (size1 b) b)) b
 
 -- section 2: one entry per 2, each of them seen before (24)
@@ -97,34 +90,28 @@ abbrev pub size2 : List ℕ → ℕ
 size2 trits = 2 * countIn 2 trits
 
 unfoldable pub fault2 : List ℕ → List ℕ → ℕ
-unfolding sectionFault fromBytes shadowsSeen
 fault2 trits b =
     sectionFault (fault 24 (eqb (countOf b) (countIn 2 trits))) (size2 trits) (fault 24 (shadowsSeen trits (fromBytes 2 (contentsOf (size2 trits) b)))) b
 
 -- the shadows of an image, and what follows section 2
 unfoldable pub shadowsOf : List ℕ → List ℕ
-unfolding tritsOf fromBytes
 shadowsOf b = fromBytes 2 (contentsOf (size2 (tritsOf b)) (after1 b))
 
 unfoldable pub after2 : List ℕ → List ℕ
-unfolding tritsOf
 after2 b = restOf (size2 (tritsOf b)) (after1 b)
 
 -- sections 3 to 9 are what sections 1 and 2 give (25); nothing follows (26)
 unfoldable pub givenFault : Section → List ℕ → ℕ
-unfolding sectionFault
 givenFault s b =
     let size : ℕ = length (s .contents) in
     sectionFault (fault 25 (eqb (countOf b) (s .entries))) size (fault 25 (same (contentsOf size b) (s .contents))) b
 
 unfoldable pub checkGiven : List Section → List ℕ → ℕ
-unfolding givenFault
 checkGiven [] b = fault 26 (eqb (length b) 0)
 checkGiven (s ∷ ss) b = givenFault s b then checkGiven ss (restOf (length (s .contents)) b)
 
 -- "The image checker goes section by section"; a proper image gives 0
 unfoldable pub checkImage : List ℕ → ℕ
-unfolding fault1 fault2 checkGiven given tritsOf shadowsOf after2
 checkImage b = fault1 b then fault2 (tritsOf b) (after1 b) then checkGiven (given (tritsOf b) (shadowsOf b)) (after2 b)
 
 -- bytes that the checker accepts
@@ -155,3 +142,22 @@ pub record SectionOrder (countFault size contentsFault : ℕ) (b : List ℕ) : T
   pub count-wrong : 4 ≤ length b → 0 < countFault → sectionFault countFault size contentsFault b ≡ countFault
   pub contents-missing : 4 ≤ length b → countFault ≡ 0 → length (drop 4 b) < size → sectionFault countFault size contentsFault b ≡ 21
   pub contents-wrong : 4 ≤ length b → countFault ≡ 0 → size ≤ length (drop 4 b) → sectionFault countFault size contentsFault b ≡ contentsFault
+
+-- the rules of section 1's contents, and the order of its faults: n and m are held to 22 after them
+pub record OwnRules (L : ℕ) (bs : List ℕ) : Type 0 where
+  pub is-low : bytesLow bs ≡ true
+  pub is-padded : padded L bs ≡ true
+  pub roots-first : rootsFirst (untrytes L bs) ≡ true
+  pub is-balanced : balanced (untrytes L bs) ≡ true
+  pub is-grown : grown (untrytes L bs) ≡ true
+
+pub record ContentsOrder1 (L : ℕ) (bs : List ℕ) : Type 0 where
+  pub rule-broken : (OwnRules L bs → ⊥) → contentsFault1 L bs ≡ 23
+  pub limit-passed : OwnRules L bs → (limits (untrytes L bs) ≡ true → ⊥) → contentsFault1 L bs ≡ 22
+
+-- the order of the sections
+pub record CheckOrder (b : List ℕ) : Type 0 where
+  pub contents-1 : ContentsOrder1 (countOf b) (contentsOf (size1 b) b)
+  pub first : 0 < fault1 b → checkImage b ≡ fault1 b
+  pub second : fault1 b ≡ 0 → 0 < fault2 (tritsOf b) (after1 b) → checkImage b ≡ fault2 (tritsOf b) (after1 b)
+  pub others : fault1 b ≡ 0 → fault2 (tritsOf b) (after1 b) ≡ 0 → checkImage b ≡ checkGiven (given (tritsOf b) (shadowsOf b)) (after2 b)

@@ -50,32 +50,25 @@ unfoldable pub tritAnswer : List ℕ → ℕ → ℕ → Reply
 tritAnswer trits a b = within 32 (ltb a (length trits)) (within 33 (eqb b 0) (plain (getD trits a 0)))
 
 unfoldable pub rankAnswer : List ℕ → ℕ → ℕ → Reply
-unfolding rank
 rankAnswer trits a b = within 32 (leb a 2) (within 33 (leb b (length trits)) (plain (rank a trits b)))
 
 unfoldable pub selectAnswer : List ℕ → ℕ → ℕ → Reply
-unfolding select
 selectAnswer trits a b = within 32 (leb a 2) (placeOr33 (select a trits b))
 
 unfoldable pub operandCount : List ℕ → List ℕ → ℕ → ℕ → Reply
-unfolding nodeCount operandEdges
 operandCount trits H a b = within 32 (isNode (nodeCount trits) a) (within 33 (eqb b 0) (plain (length (operandEdges trits H a))))
 
 unfoldable pub operandAnswer : List ℕ → List ℕ → ℕ → ℕ → Reply
-unfolding nodeCount operandEdges
 operandAnswer trits H a b = within 32 (isNode (nodeCount trits) a) (operandOr33 (numbered (operandEdges trits H a) b))
 
 unfoldable pub useCount : List ℕ → List ℕ → ℕ → ℕ → Reply
-unfolding nodeCount useEdges
 useCount trits H a b = within 32 (isNode (nodeCount trits) a) (within 33 (eqb b 0) (plain (length (useEdges trits H a))))
 
 unfoldable pub useAnswer : List ℕ → List ℕ → ℕ → ℕ → Reply
-unfolding nodeCount useEdges
 useAnswer trits H a b = within 32 (isNode (nodeCount trits) a) (userOr33 (numbered (useEdges trits H a) b))
 
 -- the kind is looked at first (31): kinds 0 to 6, in order
 unfoldable pub answer : List ℕ → List ℕ → ℕ → ℕ → ℕ → Reply
-unfolding tritAnswer rankAnswer selectAnswer operandCount operandAnswer useCount useAnswer
 answer trits H kind a b =
     getD
     (tritAnswer trits a b

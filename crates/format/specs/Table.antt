@@ -43,7 +43,6 @@ runs [] = []
 runs (xs ∷ rest) = counted xs ++ runs rest
 
 unfoldable pub words : Graph → List ℕ
-unfolding runs
 words g = nodes g ∷ runs (g .operands) ++ counted (g .roots)
 
 -- ---- reading words, front to back
@@ -88,7 +87,6 @@ readRoots n (suc k) before ws =
     (andThen (readRoots n k (before ++ v ∷ []) ws₁) λ vs ws₂. got (v ∷ vs) ws₂))
 
 unfoldable pub readGraph : List ℕ → Got Graph
-unfolding word readOperands readNodes readRoots
 readGraph ws =
     andThen (word ws) λ n ws₁. need (leb n 30000) 2
     (andThen (readNodes n n 0 ws₁) λ os ws₂.
@@ -106,7 +104,6 @@ whole (got g []) = graph g
 whole (got g (w ∷ ws)) = faulty 6
 
 unfoldable pub readTable : List ℕ → Read
-unfolding readGraph
 readTable ws = whole (readGraph ws)
 
 -- ---- what statements say of it

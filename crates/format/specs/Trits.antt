@@ -18,17 +18,14 @@ places t xs = keep (λ p. eqb (getD xs p 3) t) (run 0 (length xs))
 
 -- select of t, number j, is the place of the j-th t, j from 1
 unfoldable pub select : ℕ → List ℕ → ℕ → Option ℕ
-unfolding places
 select t xs j = numbered (places t xs) j
 
 -- five trits a byte: t0 + 3·t1 + 9·t2 + 27·t3 + 81·t4; missing trits are 0
 unfoldable pub trytes : List ℕ → List ℕ
-unfolding gather
 trytes xs = gather 3 5 xs
 
 -- the first L trits of the bytes
 unfoldable pub untrytes : ℕ → List ℕ → List ℕ
-unfolding spread
 untrytes L bs = take L (spread 3 5 bs)
 
 -- how often t stands in the first r trits of a tryte

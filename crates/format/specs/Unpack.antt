@@ -14,7 +14,6 @@ use Rattle.format.specs.declared.Unpacked.{Unpacked}
 
 -- the operands of each node, as its edges say, and the roots, which have level numbers 1 to c
 unfoldable pub unpack : List ℕ → List ℕ → Graph
-unfolding nodeCount rootCount operandEdges
 unpack trits H = record { operands = map (λ (i : ℕ). map operandOf (operandEdges trits H i)) (oneTo (nodeCount trits)); roots = oneTo (rootCount trits) }
 
 -- ---- the outcome
@@ -33,7 +32,6 @@ unpackSettled (suc c) ws buffer = record { returned = stops (suc c); table = buf
 
 -- "21 to 26, then 51; it writes only the table and returns its length"
 unfoldable pub unpackOutcome : List ℕ → List ℕ → UnpackOutcome
-unfolding unpack words checkImage tritsOf shadowsOf
 unpackOutcome image buffer =
     let ws : List ℕ = words (unpack (tritsOf image) (shadowsOf image)) in
     unpackSettled (checkImage image then fault 51 (leb (length ws) (length buffer))) ws buffer
