@@ -10,11 +10,11 @@ use lib.ListN.{length, getD, take, drop, length-append, length-map, take-append-
 use lib.Seq.{drop-cons, take-append-seam, getD-append-seam}
 use borrow.Author.Tests.{eq-eqb, le-leb, leb-true}
 use Rattle.format.specs.Lists.{All, oneTo, numberIn, countIn}
-use Rattle.format.specs.Table.{Graph, nodes, edges, Node, words, WellFormed, Limits, isNode}
+use Rattle.format.specs.Table.{Graph, nodes, edges, Node, words, WellFormed, WithinLimits, isNode}
 use Rattle.format.specs.Level.{walk, levelOrder, reached}
 use Rattle.format.specs.Trits.{rank, places}
 use Rattle.format.specs.Image.{nodeCount, rootCount, edgeCount, untilZero, image, shadowAt}
-use Rattle.format.specs.Proper.{rootsFirst, balanced, limits, shadowsSeen, Proper}
+use Rattle.format.specs.Proper.{rootsFirst, balanced, limits, shadowsSeen, ProperTrits}
 use Rattle.format.specs.Renumbering.{renumbered}
 use Rattle.format.proofs.Cutting.{scanned}
 use Rattle.format.specs.Packing.{imageOf, Accepted}
@@ -58,7 +58,7 @@ all-each P (x ∷ xs) a (suc i) l = all-each P xs (a .1) i (le-of-suc-le-suc l)
 
 -- ---- from places to cuts
 
-rules-of : (ts hs : List ℕ) → Proper ts hs → Rules ts hs
+rules-of : (ts hs : List ℕ) → ProperTrits ts hs → Rules ts hs
 unfolding nodeCount shadowAt
 rules-of ts hs p =
     let two : (a b : List ℕ) → ts ≡ a ++ 2 ∷ b → (1 ≤ countIn 0 a) × Node (countIn 1 a) (getD hs (countIn 2 a) 0) = λ a b e.
@@ -80,7 +80,7 @@ rules-of ts hs p =
       earlier = λ a b e. two a b e .1;
     }
 
-pub scan-of : (ts hs : List ℕ) → Proper ts hs → Scan ts hs
+pub scan-of : (ts hs : List ℕ) → ProperTrits ts hs → Scan ts hs
 scan-of ts hs p = proper-of ts hs (rules-of ts hs p)
 
 -- ---- from cuts to places
@@ -93,7 +93,7 @@ front-no-two r (suc (suc zero) ∷ ts) [] s = absurd s
 front-no-two r (suc (suc zero) ∷ ts) (h ∷ hs) s = absurd (omega arith)
 front-no-two r (suc (suc (suc t)) ∷ ts) hs s = absurd s
 
-pub proper-of-scan : (ts hs : List ℕ) → Scan ts hs → length ts ≤ 125536 → nodeCount ts ≤ 30000 → edgeCount ts ≤ 65535 → Proper ts hs
+pub proper-of-scan : (ts hs : List ℕ) → Scan ts hs → length ts ≤ 125536 → nodeCount ts ≤ 30000 → edgeCount ts ≤ 65535 → ProperTrits ts hs
 unfolding rootsFirst balanced limits shadowsSeen nodeCount places rank shadowAt
 proper-of-scan ts hs s few n m =
     let r = words-of ts hs s in
@@ -120,7 +120,7 @@ proper-of-scan ts hs s few n m =
 
 -- ---- an accepted table
 
-pub reads-as : (ws : List ℕ) (g : Graph) → Accepted ws g → (ws ≡ words g) × WellFormed g × Limits g
+pub reads-as : (ws : List ℕ) (g : Graph) → Accepted ws g → (ws ≡ words g) × WellFormed g × WithinLimits g
 reads-as ws g a = words-read ws g (a .read)
 
 pub packable : (ws : List ℕ) (g : Graph) → Accepted ws g → Packable g
@@ -128,7 +128,7 @@ unfolding reached
 packable ws g a = record { formed = reads-as ws g a .1; all-reached = eqb→eq (length (levelOrder g)) (nodes g) (a .reaches) }
 
 -- what is well formed, within the limits and reached is accepted, as its words
-pub accepted : (g : Graph) → Packable g → Limits g → Accepted (words g) g
+pub accepted : (g : Graph) → Packable g → WithinLimits g → Accepted (words g) g
 unfolding reached
 accepted g p l = record { read = read-words g (p .formed) l; reaches = subst (λ (k : ℕ). T (eqb (length (levelOrder g)) k)) (p .all-reached) (eqb-refl (length (levelOrder g))) }
 
@@ -144,7 +144,7 @@ pub edge-count : (g : Graph) → Packable g → edgeCount (walk g .trits) ≡ ed
 unfolding edgeCount nodeCount
 edge-count g p = let c = counts g p in omega (arith, c .size, c .ones, root-count g p)
 
-pub proper-table : (ws : List ℕ) (g : Graph) → Accepted ws g → Proper (walk g .trits) (walk g .shadows)
+pub proper-table : (ws : List ℕ) (g : Graph) → Accepted ws g → ProperTrits (walk g .trits) (walk g .shadows)
 unfolding nodeCount
 proper-table ws g a =
     let p = packable ws g a in
@@ -157,7 +157,7 @@ proper-table ws g a =
 -- ---- what proper trits and shadows describe is accepted, and packs to them
 
 -- n, m and c, read off the trits
-pub scanned-counts : (ts hs : List ℕ) → Proper ts hs → (nodes (scanned ts hs) ≡ nodeCount ts) × (edges (scanned ts hs) ≡ edgeCount ts) × (length (scanned ts hs .roots) ≡ rootCount ts)
+pub scanned-counts : (ts hs : List ℕ) → ProperTrits ts hs → (nodes (scanned ts hs) ≡ nodeCount ts) × (edges (scanned ts hs) ≡ edgeCount ts) × (length (scanned ts hs .roots) ≡ rootCount ts)
 unfolding edgeCount nodeCount rootCount
 scanned-counts ts hs p =
     let s = scan-of ts hs p in
@@ -166,16 +166,16 @@ scanned-counts ts hs p =
     let r : length (scanned ts hs .roots) ≡ rootCount ts = ap length (proper-roots ts hs s) ∙ length-run 1 (rootCount ts) in
     (proper-nodes ts hs s, omega (arith, c .size, proper-nodes ts hs s), r)
 
-pub proper-limits : (ts hs : List ℕ) → Proper ts hs → Limits (scanned ts hs)
+pub proper-limits : (ts hs : List ℕ) → ProperTrits ts hs → WithinLimits (scanned ts hs)
 unfolding limits
 proper-limits ts hs p =
     let c = scanned-counts ts hs p in
     let h = both-true (leb (nodeCount ts) 30000) (leb (edgeCount ts) 65535) (p .in-limits) in
     record { nodes-fit = omega (arith, leb-true (nodeCount ts) 30000 (h .0)); edges-fit = omega (arith, leb-true (edgeCount ts) 65535 (h .1)) }
 
-pub scanned-accepted : (ts hs : List ℕ) → Proper ts hs → Accepted (words (scanned ts hs)) (scanned ts hs)
+pub scanned-accepted : (ts hs : List ℕ) → ProperTrits ts hs → Accepted (words (scanned ts hs)) (scanned ts hs)
 scanned-accepted ts hs p = accepted (scanned ts hs) (proper-packable ts hs (scan-of ts hs p)) (proper-limits ts hs p)
 
-pub scanned-image : (ts hs : List ℕ) → Proper ts hs → imageOf (scanned ts hs) ≡ image ts hs
+pub scanned-image : (ts hs : List ℕ) → ProperTrits ts hs → imageOf (scanned ts hs) ≡ image ts hs
 unfolding imageOf
 scanned-image ts hs p = λ i. image (proper-walk ts hs (scan-of ts hs p) i .trits) (proper-walk ts hs (scan-of ts hs p) i .shadows)

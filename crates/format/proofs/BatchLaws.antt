@@ -12,7 +12,7 @@ use mathlib.Core.Bool.{true, Bool, false}
 use Rattle.format.specs.Lists.{join, countIn, each}
 use Rattle.format.specs.Proper.{checkImage, tritsOf, shadowsOf}
 use Rattle.format.specs.Question.{Reply, plain, answer, says}
-use Rattle.format.specs.Batch.{answers, threeWords, good, tallyHolds, batchFault, batchRan, batchSettled, batchOutcome, BatchOutcome, Runs, Ran, TallyRoom}
+use Rattle.format.specs.Batch.{answers, threeWords, good, tallyHolds, batchFault, batchRan, batchSettled, batchOutcome, BatchOutcome, Runs, Ran, TallyRoom, BatchGives}
 use Rattle.format.specs.declared.Tally.{Tally}
 use Rattle.format.specs.Faults.{fault, _then_}
 use Rattle.format.proofs.Laws.{both-true, true-both, length-each, getD-each, count-le}
@@ -205,3 +205,13 @@ batch-leaves image questions buffer t r =
       refused = omega (arith, good-le rs, n);
       tally-fits = (omega (arith, n, r .tally-room .asked-fits), omega (arith, good-le rs, n, r .tally-room .answered-fits), omega (arith, good-le rs, n, r .tally-room .refused-fits));
     })
+
+pub batch-gives : (image questions buffer : List ℕ) (t : Tally) → BatchGives image questions buffer t (batchOutcome image questions buffer t)
+batch-gives image questions buffer t = record {
+  not-threes = batch-41 image questions buffer t;
+  buffer-short = batch-42 image questions buffer t;
+  tally-full = batch-43 image questions buffer t;
+  improper = batch-improper image questions buffer t;
+  ran = batch-leaves image questions buffer t;
+  answered = batch-says image questions buffer t;
+}

@@ -6,12 +6,12 @@ use Prim.Native.String.{String}
 use mathlib.Core.List.{List, [], _∷_, _++_, map}
 use lib.ListN.{length, take, replicate}
 use Rattle.format.specs.Lists.{every, same, join, sumOf, numberIn, gather, spread}
-use Rattle.format.specs.Table.{Read, faulty, graph, readTable, operandsOf, runs, words, word, readOperands, readNodes, readRoots, readGraph}
-use Rattle.format.specs.Level.{Walk, walk, see, seeAll, visit, start, turns, levelOrder, reached}
+use Rattle.format.specs.Table.{Read, faulty, graph, readTable, operandsOf, listWords, words, word, readOperands, readNodes, readRoots, readGraph}
+use Rattle.format.specs.Level.{Walk, walk, see, seeAll, visit, superRoot, turns, levelOrder, reached}
 use Rattle.format.specs.Trits.{trytes, rank, places, select, untrytes, tryteCount}
 use Rattle.format.specs.Image.{bytes, nodeCount, markWords, markedNodes, starts, grouped, fromBytes, rootCount, edgeCount, shadowAt, marked, marks, group, pair, pairs, markSamples, section1, section2, section3, section4, section5, section6, section7, section8, section9, given, image}
 use Rattle.format.specs.Batch.{batchOutcome, tallyHolds, batchFault}
-use Rattle.format.specs.Listing.{text, newline, listingText, decimal, operandText, userText, nodeLine, countLine, listing, refusal, tableText, listingOutcome}
+use Rattle.format.specs.Listing.{text, listingText, decimal, operandText, userText, nodeLine, countLine, listing, refusal, tableText, listingOutcome}
 use Rattle.format.specs.Packing.{PackOutcome, packOutcome, imageOf, packFault}
 use Rattle.format.specs.Edges.{operandAt, edgeAt, edgeList, operandEdges, useEdges}
 use Rattle.format.specs.Proper.{bytesLow, padded, rootsFirst, balanced, grown, limits, shadowsSeen, sectionFault, tritsOf, contentsFault1, fault1, fault2, shadowsOf, after2, givenFault, checkGiven, checkImage}
@@ -21,7 +21,7 @@ use Rattle.format.specs.Question.{tritAnswer, rankAnswer, selectAnswer, 
 
 -- the definitions, all of them, are computed with
 computed : Unit {0}
-unfolding sumOf numberIn gather spread operandsOf runs words word readOperands readNodes readRoots readGraph readTable see seeAll visit start turns walk levelOrder reached rank places select trytes untrytes tryteCount bytes fromBytes nodeCount rootCount edgeCount shadowAt marked marks markWords group grouped markedNodes starts pair pairs markSamples section1 section2 section3 section4 section5 section6 section7 section8 section9 given image imageOf packFault packOutcome bytesLow padded rootsFirst balanced grown limits shadowsSeen sectionFault tritsOf contentsFault1 fault1 fault2 shadowsOf after2 givenFault checkGiven checkImage operandAt edgeAt edgeList operandEdges useEdges tritAnswer rankAnswer selectAnswer operandCount operandAnswer useCount useAnswer answer unpack unpackOutcome tallyHolds batchFault batchOutcome decimal operandText userText nodeLine countLine listing refusal tableText listingText listingOutcome renumbered
+unfolding sumOf numberIn gather spread operandsOf listWords words word readOperands readNodes readRoots readGraph readTable see seeAll visit superRoot turns walk levelOrder reached rank places select trytes untrytes tryteCount bytes fromBytes nodeCount rootCount edgeCount shadowAt marked marks markWords group grouped markedNodes starts pair pairs markSamples section1 section2 section3 section4 section5 section6 section7 section8 section9 given image imageOf packFault packOutcome bytesLow padded rootsFirst balanced grown limits shadowsSeen sectionFault tritsOf contentsFault1 fault1 fault2 shadowsOf after2 givenFault checkGiven checkImage operandAt edgeAt edgeList operandEdges useEdges tritAnswer rankAnswer selectAnswer operandCount operandAnswer useCount useAnswer answer unpack unpackOutcome tallyHolds batchFault batchOutcome decimal operandText userText nodeLine countLine listing refusal tableText listingText listingOutcome renumbered
 computed = tt
 
 walkOf : Read → Walk
@@ -62,6 +62,19 @@ first = 3 ∷ 2 ∷ 2 ∷ 3 ∷ 1 ∷ 3 ∷ 0 ∷ 1 ∷ 1 ∷ []
 
 abbrev drawn : List ℕ
 drawn = 8 ∷ 2 ∷ 2 ∷ 3 ∷ 1 ∷ 4 ∷ 2 ∷ 4 ∷ 5 ∷ 2 ∷ 6 ∷ 7 ∷ 2 ∷ 7 ∷ 8 ∷ 1 ∷ 8 ∷ 0 ∷ 1 ∷ 7 ∷ 1 ∷ 1 ∷ []
+
+-- its image, section by section
+abbrev drawnImage : List ℕ
+drawnImage =
+    21 ∷ 0 ∷ 0 ∷ 0 ∷ 37 ∷ 46 ∷ 139 ∷ 168 ∷ 0
+    ∷ 4 ∷ 0 ∷ 0 ∷ 0 ∷ 4 ∷ 0 ∷ 7 ∷ 0 ∷ 8 ∷ 0 ∷ 7 ∷ 0
+    ∷ 8 ∷ 0 ∷ 0 ∷ 0 ∷ 200 ∷ 0 ∷ 0 ∷ 0 ∷ 0 ∷ 0 ∷ 0 ∷ 0
+    ∷ 4 ∷ 0 ∷ 0 ∷ 0 ∷ 0 ∷ 0 ∷ 0 ∷ 0 ∷ 1 ∷ 0 ∷ 0 ∷ 0 ∷ 3 ∷ 0 ∷ 0 ∷ 0 ∷ 4 ∷ 0 ∷ 0 ∷ 0
+    ∷ 4 ∷ 0 ∷ 0 ∷ 0 ∷ 7 ∷ 0 ∷ 0 ∷ 0 ∷ 13 ∷ 0 ∷ 0 ∷ 0 ∷ 19 ∷ 0 ∷ 0 ∷ 0 ∷ 16 ∷ 0 ∷ 0 ∷ 0
+    ∷ 1 ∷ 0 ∷ 0 ∷ 0 ∷ 0 ∷ 0 ∷ 0 ∷ 0 ∷ 0 ∷ 0 ∷ 0 ∷ 0
+    ∷ 1 ∷ 0 ∷ 0 ∷ 0 ∷ 0 ∷ 0 ∷ 0 ∷ 0
+    ∷ 1 ∷ 0 ∷ 0 ∷ 0 ∷ 0 ∷ 0
+    ∷ 1 ∷ 0 ∷ 0 ∷ 0 ∷ 0 ∷ 0 ∷ []
 
 infix 15 _gives_
 abbrev _gives_ : List ℕ → List ℕ → Bool
@@ -109,6 +122,7 @@ cases =
     ∷ (starts (trits drawn) (shadows drawn) gives 0 ∷ 1 ∷ 3 ∷ 4 ∷ [])
     ∷ (grouped (trits drawn) (shadows drawn) (nodeCount (trits drawn)) gives 7 ∷ 13 ∷ 19 ∷ 16 ∷ [])
     ∷ (reply (packed drawn) gives 0 ∷ 105 ∷ [])
+    ∷ (packed drawn .image gives drawnImage)
     -- rank of 1 before 11 is 6; select of 0, number 4, is 9; and the second operand of 3, the third user of 7
     ∷ (asked drawn (1 ∷ 1 ∷ 11 ∷ 2 ∷ 0 ∷ 4 ∷ 4 ∷ 3 ∷ 2 ∷ 6 ∷ 7 ∷ 3 ∷ []) gives 0 ∷ 6 ∷ 0 ∷ 0 ∷ 9 ∷ 0 ∷ 0 ∷ 5 ∷ 1 ∷ 0 ∷ 8 ∷ 2 ∷ 9 ∷ [])
     -- 2 0 0 1 1 gives 8; 1 0 0 gives 8
@@ -120,8 +134,12 @@ pub cases-hold : every (λ b. b) cases ≡ true
 unfolding computed cases walkOf
 cases-hold = refl
 
--- the listing of the drawn graph, as it stands in document 01; a table that is refused; 61
-pub listing-holds : (listingText (bytes 2 drawn) ≡ join (map (λ (l : String). text l ++ newline) (
+-- lines of text, each with its newline
+abbrev lines : List String → List ℕ
+lines ls = join (map (λ (l : String). text l ++ (10 ∷ [])) ls)
+
+-- the listing of the drawn graph, as it stands in document 01; two roots, of which the second is used, and two digits; what is refused
+pub listing-holds : (listingText (bytes 2 drawn) ≡ lines (
     "nodes 8 edges 11 roots 1 trits 21 shadows 4 bytes 105"
     ∷ "1: 2 3 |"
     ∷ "2: 4 | 1"
@@ -131,9 +149,12 @@ pub listing-holds : (listingText (bytes 2 drawn) ≡ join (map (λ (l : String).
     ∷ "6: 8* | 4"
     ∷ "7: | 4 5* 8*"
     ∷ "8: 7* | 5 6*"
-    ∷ [])))
-    × (listingText (bytes 2 (1 ∷ 0 ∷ 0 ∷ [])) ≡ text "refused 8" ++ newline)
-    × (listingText (7 ∷ []) ≡ text "refused 61" ++ newline)
-    × (listingText (replicate 8002 0) ≡ text "refused 61" ++ newline)
+    ∷ []))
+    × (listingText (bytes 2 (2 ∷ 1 ∷ 2 ∷ 0 ∷ 2 ∷ 1 ∷ 2 ∷ [])) ≡ lines ("nodes 2 edges 1 roots 2 trits 6 shadows 1 bytes 76" ∷ "1: 2* |" ∷ "2: | 1*" ∷ []))
+    × (listingText (bytes 2 (1 ∷ 0 ∷ 0 ∷ [])) ≡ lines ("refused 8" ∷ []))
+    × (listingText (bytes 2 (30001 ∷ [])) ≡ lines ("refused 2" ∷ []))
+    × (listingText (replicate 8000 0) ≡ lines ("refused 6" ∷ []))
+    × (listingText (7 ∷ []) ≡ lines ("refused 61" ∷ []))
+    × (listingText (replicate 8002 0) ≡ lines ("refused 61" ∷ []))
 unfolding computed
-listing-holds = (refl, refl, refl, refl)
+listing-holds = (refl, refl, refl, refl, refl, refl, refl)

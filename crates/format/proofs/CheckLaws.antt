@@ -14,7 +14,7 @@ use Rattle.format.specs.Lists.{run, same, countIn, up, horner, spread, B
 use Rattle.format.specs.Trits.{rank, places, trytes, untrytes}
 use Rattle.format.specs.Image.{leBytes, bytes, fromBytes, nodeCount, marked, markedNodes, Section, section2, given, written, image, shadowAt, section3, section1, section4, section5, section6, section7, section8, section9}
 use Rattle.format.specs.Faults.{fault, _then_}
-use Rattle.format.specs.Proper.{bytesLow, padded, rootsFirst, balanced, grown, limits, shadowsSeen, countOf, contentsOf, restOf, sectionFault, size1, size2, after1, after2, contentsFault1, fault1, fault2, checkGiven, checkImage, tritsOf, shadowsOf, Proper, SectionOrder}
+use Rattle.format.specs.Proper.{bytesLow, padded, rootsFirst, balanced, grown, limits, shadowsSeen, countOf, contentsOf, restOf, sectionFault, size1, size2, after1, after2, contentsFault1, fault1, fault2, checkGiven, checkImage, tritsOf, shadowsOf, ProperTrits, SectionGives}
 use Rattle.format.specs.Table.{Node, isNode}
 use Rattle.format.proofs.Laws.{both-true, at-every, every-at, same-eq, same-refl, count-le, length-run, length-keep, rank-count, rank-here, isNode-node}
 use Rattle.format.proofs.Digits.{horner-digits, horner-lt, digits-horner, below-take, below-drop, length-gather, length-spread, gather-at, gather-spread, spread-gather, spread-gather-at, spread-gather-whole, gather-pad, below-spread, length-block, below-block, up-mul, le-up}
@@ -64,8 +64,14 @@ module _ (cf size ct : ℕ) (b : List ℕ) where
     unfolding sectionFault
     section-contents hc hs = counted _ ∙ then-yes cf _ hc ∙ ap (λ (t : Bool). fault 21 t then ct) (le-leb size (length (drop 4 b)) hs)
 
-  pub section-order : SectionOrder cf size ct b
-  section-order = record { count-missing = section-missing; count-wrong = section-count; contents-missing = section-short; contents-wrong = section-contents }
+  -- a count that is right or not
+  pub section-gives : (R : Type 0) (wrong : ℕ) → 0 < wrong → (R → cf ≡ 0) → ((R → ⊥) → cf ≡ wrong) → SectionGives (sectionFault cf size ct b) b R wrong size ct
+  section-gives R wrong p right bad = record {
+    count-missing = section-missing;
+    count-wrong = λ h r. section-count h (omega (arith, bad r)) ∙ bad r;
+    contents-missing = λ h r l. section-short h (right r) l;
+    contents-there = λ h r l. section-contents h (right r) l;
+  }
 
   pub section-passes : 4 ≤ length b → cf ≡ 0 → size ≤ length (drop 4 b) → ct ≡ 0 → sectionFault cf size ct b ≡ 0
   section-passes h c l t = section-contents h c l ∙ t
@@ -188,7 +194,7 @@ trytes-padded trits h =
     ∙ List·getD-eq-default trits 0 (omega arith) in
     eq-eqb 0 (getD (drop (length trits) S) i 0) (sym e))
 
-sound1 : (trits H : List ℕ) → Proper trits H → contentsFault1 (length trits) (trytes trits) ≡ 0
+sound1 : (trits H : List ℕ) → ProperTrits trits H → contentsFault1 (length trits) (trytes trits) ≡ 0
 unfolding contentsFault1
 sound1 trits H p =
     ap (λ (t : List ℕ). fault 23 (bytesLow (trytes trits)) then fault 23 (padded (length trits) (trytes trits)) then fault 23 (rootsFirst t) then fault 23 (balanced t)
@@ -207,12 +213,12 @@ pub bytes-fromBytes : (w : ℕ) (bs : List ℕ) (k : ℕ) → 0 < w → Below 25
 unfolding fromBytes bytes
 bytes-fromBytes w bs k pw h e = spread-gather-whole 256 w (lit< tt) pw bs k h e
 
-pub shadows-small : (trits H : List ℕ) → Proper trits H → Below (256 ^ 2) H
+pub shadows-small : (trits H : List ℕ) → ProperTrits trits H → Below (256 ^ 2) H
 shadows-small trits H p j h = omega (arith, shadow-nodes trits H (p .paired) (p .seen) j h .1, limits-nodes trits (p .in-limits))
 
 -- ---- an image of proper trits and shadows is passed
 
-given-small : (trits H : List ℕ) → Proper trits H → Small (given trits H)
+given-small : (trits H : List ℕ) → ProperTrits trits H → Small (given trits H)
 unfolding given markedNodes section3 section4 section5 section6 section7 section8 section9 nodeCount
 given-small trits H p =
     let n : nodeCount trits ≤ 30000 = limits-nodes trits (p .in-limits) in
@@ -222,7 +228,7 @@ given-small trits H p =
     (omega arith, (omega arith, (omega arith, (omega arith, (omega arith, (omega arith, (omega arith, tt)))))))
 
 -- the image of proper trits and shadows gives these back
-module _ (trits H : List ℕ) (p : Proper trits H) where
+module _ (trits H : List ℕ) (p : ProperTrits trits H) where
   abbrev b : List ℕ
   b = image trits H
 
@@ -320,7 +326,7 @@ unfolding untrytes
 trits-untrytes L bs = below-take 3 L (spread 3 5 bs) (below-spread 3 5 (lit< tt) (lit< tt) bs)
 
 pub record Sound (b : List ℕ) : Type 0 where
-  pub proper : Proper (tritsOf b) (shadowsOf b)
+  pub proper : ProperTrits (tritsOf b) (shadowsOf b)
   pub same : b ≡ image (tritsOf b) (shadowsOf b)
 
 pub image-passed : (b : List ℕ) → Below 256 b → checkImage b ≡ 0 → Sound b

@@ -5,23 +5,23 @@ use mathlib.Core.Path.{_≡_, ap, _∙_}
 use mathlib.Core.Logic.{_↔_, _⊎_}
 use mathlib.Core.Bool.{_&&_, cond}
 use mathlib.Core.Option.{some}
-use mathlib.Core.List.{List, [], _∷_, map, List·Permᴰ}
+use mathlib.Core.List.{List, map, List·Permᴰ}
 use lib.Dec.{ltb, eqb}
 use lib.ListN.{length, getD, take, drop}
 use lib.Count.{ones}
-use Rattle.format.specs.Lists.{All, Below, run, oneTo, sumOf, join, keep, nodeAt, over}
-use Rattle.format.specs.Table.{Graph, faulty, graph, nodes, edges, Node, words, readTable, WellFormed, Limits, FirstFault}
+use Rattle.format.specs.Lists.{All, Below, run, oneTo, sumOf, nodeAt, over, countIn, RisingFrom}
+use Rattle.format.specs.Table.{Graph, faulty, graph, nodes, edges, Node, words, readTable, WellFormed, WithinLimits, FirstFault}
 use Rattle.format.specs.Level.{walk, levelOrder, Reach, Counts}
 use Rattle.format.specs.Trits.{rank, select, trytes, tryteCount, tryteTable}
-use Rattle.format.specs.Image.{nodeCount, marks, markWords, markSamples, pairs, lastMultiple, ReadBack}
+use Rattle.format.specs.Image.{nodeCount, group, grouped, starts, marks, markWords, markSamples, pairs, lastMultiple, image, Counted, ReadBack}
 use Rattle.format.specs.Packing.{imageOf, Accepted, RoomEnough, bytesOf, cleared, packLeaves, packOutcome, Kept}
-use Rattle.format.specs.Proper.{CheckOrder, SectionOrder, checkImage, tritsOf, shadowsOf, ImageCode}
-use Rattle.format.specs.Edges.{operandOf, userOf, operandEdges, useEdges}
+use Rattle.format.specs.Proper.{CheckerGives, checkImage, tritsOf, shadowsOf, ProperTrits, ImageCode}
+use Rattle.format.specs.Edges.{operandOf, userOf, operandEdges, useEdges, Edge}
 use Rattle.format.specs.Question.{answer, says, Beyond, Kinds}
 use Rattle.format.specs.Answers.{done, stops, checkedNumber, answerNumbers, foundPlace, Answerable, ExactlyOne}
 use Rattle.format.specs.Unpack.{unpack, unpackLeaves, unpackOutcome}
-use Rattle.format.specs.Batch.{TallyRoom, Runs, Ran, batchLeaves, batchOutcome}
-use Rattle.format.specs.Listing.{listingText, listingLeaves, listingOutcome}
+use Rattle.format.specs.Batch.{batchLeaves, batchOutcome, BatchGives}
+use Rattle.format.specs.Listing.{decimal, listingLeaves, listingOutcome, Decimal, ListingGives}
 use Rattle.format.specs.Renumbering.{renumbered, operandsAt, usersAt, Renumbering}
 use Rattle.format.specs.declared.Answer.{Answer}
 use Rattle.format.specs.declared.Found.{Found}
@@ -38,12 +38,15 @@ use Rattle.format.proofs.Order as order
 use Rattle.format.proofs.Widths as widths
 use Rattle.format.proofs.Tryte as tryte
 use Rattle.format.proofs.Marks as marked
+use Rattle.format.proofs.UsesIndexed as uses
+use Rattle.format.proofs.Reached as reached
+use Rattle.format.proofs.EdgeLaws as edge-laws
 use Rattle.format.proofs.Steps as steps
 use Rattle.format.proofs.TableAnswers as answered
 use Rattle.format.proofs.Replies as replies
 use Rattle.format.proofs.BatchLaws as batches
 use Rattle.format.proofs.Ranges as ranges
-use Rattle.format.proofs.Listed as listed
+use Rattle.format.proofs.ListingLaws as listings
 use Rattle.format.proofs.CheckLaws as checks
 use Rattle.format.proofs.Determined as determined
 
@@ -88,13 +91,10 @@ module _ (table order work buffer : List ℕ) where
   pub packing-kept : Kept order work buffer (packOutcome table order work buffer)
   packing-kept = promises.packing-kept table order work buffer
 
--- The image checker "goes section by section: count missing (21), count wrong [..], contents missing (21), contents wrong. n and m are held to 22 after
--- section 1's own rules."
-pub checking-order : (b : List ℕ) → CheckOrder b
-checking-order = steps.check-order
-
-pub section-order : (countFault size contentsFault : ℕ) (b : List ℕ) → SectionOrder countFault size contentsFault b
-section-order = checks.section-order
+-- "The image checker goes section by section: count missing (21), count wrong (for section 1: 22 if too large, 23 if 0), contents missing (21), contents
+-- wrong. n and m are held to 22 after section 1's own rules. Then 26."
+pub checking-order : (b : List ℕ) → CheckerGives b
+checking-order = steps.checker-gives
 
 -- "Unpacking: 21 to 26, then 51; it writes only the table and returns its length."
 module _ (b buffer : List ℕ) where
@@ -108,34 +108,13 @@ module _ (b buffer : List ℕ) where
   pub unpacking-kept : Below 256 b → let o = unpackOutcome b buffer in (length (o .table) ≡ length buffer) × (Below 65536 buffer → Below 65536 (o .table))
   unpacking-kept = promises.unpacking-kept b buffer
 
--- A batch: "41, 42, 43, then 21 to 26, then the questions one by one"; a refused batch leaves answers and tally.
-module _ (image questions buffer : List ℕ) (t : Tally) where
-  pub batch-41 : (length questions % 3 ≡ 0 → ⊥) → batchOutcome image questions buffer t ≡ record { code = 41; words = buffer; tally = t }
-  batch-41 = batches.batch-41 image questions buffer t
+-- A batch: "41, 42, 43, then 21 to 26, then the questions one by one"; "A batch of q that runs adds q to asked, the number of code 0 to answered and the
+-- others to refused. Answer words past the batch stay."
+pub batch-order : (image questions buffer : List ℕ) (t : Tally) → BatchGives image questions buffer t (batchOutcome image questions buffer t)
+batch-order = batches.batch-gives
 
-  pub batch-42 : length questions % 3 ≡ 0 → length buffer < length questions → batchOutcome image questions buffer t ≡ record { code = 42; words = buffer; tally = t }
-  batch-42 = batches.batch-42 image questions buffer t
-
-  pub batch-43 : length questions % 3 ≡ 0 → length questions ≤ length buffer → (TallyRoom t (length questions / 3) → ⊥)
-      → batchOutcome image questions buffer t ≡ record { code = 43; words = buffer; tally = t }
-  batch-43 = batches.batch-43 image questions buffer t
-
-  pub batch-improper : length questions % 3 ≡ 0 → length questions ≤ length buffer → TallyRoom t (length questions / 3) → (c : ℕ) → checkImage image ≡ suc c
-      → batchOutcome image questions buffer t ≡ record { code = suc c; words = buffer; tally = t }
-  batch-improper = batches.batch-improper image questions buffer t
-
-  -- "A batch of q that runs adds q to asked, the number of code 0 to answered and the others to refused. Answer words past the batch stay."
-  pub batch-runs : Runs image questions buffer t → Ran questions buffer t (batchOutcome image questions buffer t)
-  batch-runs = batches.batch-leaves image questions buffer t
-
-  -- and each question is answered out of its own three words, by three: code, value, sort
-  pub batch-answers : Runs image questions buffer t → (j : ℕ) → 3 * j + 2 < length questions → (c v s : ℕ)
-      → answer (tritsOf image) (shadowsOf image) (getD questions (3 * j) 0) (getD questions (3 * j + 1) 0) (getD questions (3 * j + 2) 0) ≡ says c v s
-      → take 3 (drop (3 * j) (batchOutcome image questions buffer t .words)) ≡ c ∷ v ∷ s ∷ []
-  batch-answers = batches.batch-says image questions buffer t
-
-  pub batch-fits : Below 256 image → Below 4294967296 buffer → Below 4294967296 (batchOutcome image questions buffer t .words)
-  batch-fits = ranges.batch-fits image questions buffer t
+pub batch-fits : (image questions buffer : List ℕ) (t : Tally) → Below 256 image → Below 4294967296 buffer → Below 4294967296 (batchOutcome image questions buffer t .words)
+batch-fits = ranges.batch-fits
 
 -- The numbers that each entry can give: packing 0 to 9, the checker 0 or 21 to 26, unpacking also 51, a batch also 41 to 43.
 pub codes : (table order work buffer image questions : List ℕ) (t : Tally)
@@ -149,7 +128,7 @@ codes table order work buffer image questions t =
 
 -- *accepted*: the words of a graph within the limits, its operands and roots nodes, its roots distinct and reaching every node
 pub accepted-exactly : (table : List ℕ) (g : Graph)
-    → Accepted table g ↔ ((table ≡ words g) × WellFormed g × Limits g × ((v : ℕ) → Node (nodes g) v → Reach g v))
+    → Accepted table g ↔ ((table ≡ words g) × WellFormed g × WithinLimits g × ((v : ℕ) → Node (nodes g) v → Reach g v))
 accepted-exactly = promises.accepted-exactly
 
 module _ (table : List ℕ) (g : Graph) (a : Accepted table g) where
@@ -163,17 +142,24 @@ module _ (table : List ℕ) (g : Graph) (a : Accepted table g) where
   pub table-length : length table ≡ 2 + nodes g + edges g + length (g .roots)
   table-length = ap length (accepting.reads-as table g a .0) ∙ outcomes.length-words g
 
-  -- "The order list gives, for each level number, the table's number": every node once
+  -- "The order list gives, for each level number, the table's number": every node once; "Roots enter the queue in list order"
   pub order-once : List·Permᴰ (levelOrder g) (oneTo (nodes g))
   order-once = order.order-perm g (accepting.packable table g a)
+
+  pub roots-order : take (length (g .roots)) (levelOrder g) ≡ g .roots
+  roots-order = reached.roots-order g
 
   -- "Every accepted table has L = n + m + c + 1 trits: n + 1 zeros, n ones, k = m + c − n twos"; L is at most 125,536
   pub trit-counts : Counts g × (length trits ≤ 125536)
   trit-counts = (order.counts g (accepting.packable table g a), accepting.proper-table table g a .length-high)
 
-  -- no entry is cut to its width: sections 2 to 9, read back, are what was written
-  pub sections-read : ReadBack trits H
-  sections-read = widths.sections-back trits H (accepting.proper-table table g a)
+  -- each count says how long its contents are, and no entry is cut to its width: sections 2 to 9, read back, are what was written
+  pub sections-read : Counted trits H × ReadBack trits H
+  sections-read = (widths.sections-counted trits H (accepting.proper-table table g a), widths.sections-back trits H (accepting.proper-table table g a))
+
+  -- and the image is read as the trits and H that were packed
+  pub image-read : (tritsOf (imageOf g) ≡ trits) × (shadowsOf (imageOf g) ≡ H)
+  image-read = promises.trits-back table g a
 
   -- the index: rank is the samples of sections 6, 7 and 8, whole trytes from there on, and part of one
   pub rank-indexed : (t p : ℕ) → t < 2 → p ≤ length trits → rank t trits p
@@ -187,6 +173,11 @@ module _ (table : List ℕ) (g : Graph) (a : Accepted table g) where
   pub marks-indexed : (q r : ℕ) → 64 * q + r < nodeCount trits → r < 64
       → rank 1 (marks trits H) (64 * q + r) ≡ getD (markSamples trits H) q 0 + ones (getD (markWords trits H) q 0 % 2 ^ r)
   marks-indexed = marked.marks-before trits H
+
+  -- sections 4 and 5: a marked node's places are the entries of section 5 from its first index up to the next
+  pub uses-indexed : (i : ℕ) → 1 ≤ i → i ≤ nodeCount trits → 0 < countIn i H → let j = rank 1 (marks trits H) (i - 1) in let s = starts trits H in
+      group trits H i ≡ take (getD s (j + 1) 0 - getD s j 0) (drop (getD s j 0) (grouped trits H (nodeCount trits)))
+  uses-indexed = uses.uses-indexed trits H (accepting.proper-table table g a)
 
   -- "Unpacking gives the table in level order", "which packs to the same bytes"
   pub unpacking : (buffer : List ℕ) → length (words (renumbered g (levelOrder g))) ≤ length buffer → unpackOutcome (imageOf g) buffer
@@ -203,20 +194,20 @@ module _ (table : List ℕ) (g : Graph) (a : Accepted table g) where
   pub users-listed : (v : ℕ) → map userOf (useEdges trits H v) ≡ usersAt g v
   users-listed = answered.users-listed table g a
 
-  -- "Uses are edges in order of their place in the trits": by user rising, and for each user in the order of its operands
-  pub uses-listed : (v : ℕ) → useEdges trits H v ≡ join (map (λ (i : ℕ). keep (λ e. eqb (e .operand) v) (operandEdges trits H i)) (oneTo (nodes g)))
-  uses-listed = answered.uses-listed table g a
+  -- "Uses are edges in order of their place in the trits"
+  pub uses-rise : (v : ℕ) → RisingFrom 0 (map (λ (e : Edge). e .place) (useEdges trits H v))
+  uses-rise = edge-laws.uses-rise trits H
 
   module _ (i : ℕ) (low : 1 ≤ i) (high : i ≤ nodes g) where
     -- kind 3, "count of operands"; kind 4, "that operand", with its sort: what the edge wrote, b places after the i-th zero
     pub operand-counts : answer trits H 3 i 0 ≡ says 0 (length (operandsAt g i)) 0
     operand-counts = answered.operand-counts table g a i low high
 
-    pub operand-answers : (b p : ℕ) → 1 ≤ b → b ≤ length (operandsAt g i) → select 0 trits i ≡ some p
-        → answer trits H 4 i b ≡ says 0 (nodeAt (operandsAt g i) b) (getD trits (p + b) 0)
+    pub operand-answers : (p : ℕ) × (select 0 trits i ≡ some p)
+        × ((b : ℕ) → 1 ≤ b → b ≤ length (operandsAt g i) → answer trits H 4 i b ≡ says 0 (nodeAt (operandsAt g i) b) (getD trits (p + b) 0))
     operand-answers = answered.operand-answers table g a i low high
 
-    -- "Kinds 4 and 6 do [stop with 33] where b is 0 or above the count."
+    -- 33: "Kinds 4 and 6 do where b is 0 or above the count."
     pub operand-past : (b : ℕ) → Beyond (length (operandsAt g i)) b → answer trits H 4 i b ≡ says 33 0 0
     operand-past = answered.operand-past table g a i low high
 
@@ -250,6 +241,10 @@ answer-sound image low e = ranges.fair (tritsOf image) (shadowsOf image) (checks
 pub tryte-entries : (x : ℕ) → x < 243 → getD tryteTable x 0 ≡ tryteCount 0 x 5 + 8 * tryteCount 1 x 5
 tryte-entries = tryte.tryte-entry
 
+-- "An image is proper if" it is that of trits and shadows that keep the rules: "a proper image gives 0".
+pub proper-exactly : (b : List ℕ) → Below 256 b → (checkImage b ≡ 0) ↔ ((trits : List ℕ) × (H : List ℕ) × ProperTrits trits H × (b ≡ image trits H))
+proper-exactly = promises.proper-exactly
+
 -- "The checker accepts an image exactly if some accepted table packs to it", with room enough.
 pub checker-exact : (b : List ℕ) → Below 256 b → (checkImage b ≡ 0)
     ↔ ((table : List ℕ) × (order : List ℕ) × (work : List ℕ) × (buffer : List ℕ) × All (λ w. w < 65536) table
@@ -263,9 +258,12 @@ pub round-trip : (b buffer order work image : List ℕ) → Below 256 b → unpa
     (p .returned ≡ done (length b)) × (bytesOf p ≡ b)
 round-trip = promises.round-trip
 
--- The listing's text has at most 100,000 bytes, so that a buffer of this length holds it.
-pub listing-fits : (input : List ℕ) → length (listingText input) ≤ 100000
-listing-fits = listed.text-few
+-- "A fault prints one line and no other [..]. Otherwise a first line of counts [..], then a line for each level number"; numbers are in decimal.
+pub listing-writes : (input : List ℕ) → ListingGives input
+listing-writes = listings.listing-gives
+
+pub decimal-writes : (x : ℕ) → x < 10 ^ 10 → Decimal x (decimal x)
+decimal-writes = listings.decimal-is
 
 -- ---- demand 3: "Take two accepted tables, packed with room enough. Their images are equal byte by byte exactly when some one-to-one renumbering of nodes
 -- carries the first root list to the second, in order, and each node's operand list to its counterpart's, in order."

@@ -10,11 +10,12 @@ use mathlib.Core.List.{List, [], _∷_, _++_, map, append-nil}
 use lib.Dec.{eqb, ltb}
 use lib.ListN.{length, getD}
 use borrow.Author.Tests.{eqb-true, eq-eqb, ne-eqb, lt-ltb, le-ltb}
-use Rattle.format.specs.Lists.{run, consIf, keep, Below, countIn}
+use Rattle.format.specs.Lists.{run, consIf, keep, Below, countIn, RisingFrom}
 use Rattle.format.specs.Trits.{rank, Selected, places}
 use Rattle.format.specs.Image.{shadowAt, group}
-use Rattle.format.specs.Edges.{operandAt, edgeAt, operandEdges, useEdges, isEdge}
+use Rattle.format.specs.Edges.{operandAt, edgeAt, operandEdges, useEdges, isEdge, Edge}
 use Rattle.format.proofs.Laws.{run-add, keep-append, keep-keep, getD-other, rank-here, rank-mono, true-both}
+use Rattle.format.proofs.Rising.{rising-keep, rising-run}
 
 -- ---- what a test keeps
 
@@ -224,3 +225,14 @@ module _ (trits H : List ℕ) (i r : ℕ) (three : Below 3 trits) (seen : Seen t
       (keep-run-cong useAt (twoOf trits H i) (suc r) (L - suc r) (λ p l u. use-other p (omega arith) (λ q. omega arith))) in
       useEdges-places trits H i
       ∙ ap (map (edgeAt trits H)) (uses ∙ ap (λ (l : List ℕ). consIf (ltb 0 (rank 0 trits r)) r [] ++ l) (sym twos ∙ keep-twos trits H i))
+
+-- "Uses are edges in order of their place in the trits"
+pub uses-rise : (trits H : List ℕ) (v : ℕ) → RisingFrom 0 (map (λ (e : Edge). e .place) (useEdges trits H v))
+unfolding edgeAt
+uses-rise trits H v =
+    rw (useEdges-places, back)
+    (rising-keep (λ p. isEdge trits p && eqb (operandAt trits H p) v) 0 (run 0 (length trits)) (rising-run 0 (length trits)))
+  where
+    back : (ps : List ℕ) → map (λ (e : Edge). e .place) (map (edgeAt trits H) ps) ≡ ps
+    back [] = refl
+    back (p ∷ ps) = ap {B = List ℕ} (λ r. p ∷ r) (back ps)

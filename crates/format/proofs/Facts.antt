@@ -12,7 +12,7 @@ use borrow.Author.Tests.{eqb-true, ltb-true}
 use Rattle.format.specs.Lists.{run, keep, consIf, countIn}
 use Rattle.format.specs.Trits.{rank, places}
 use Rattle.format.specs.Image.{nodeCount, edgeCount, written, image, group, shadowAt}
-use Rattle.format.specs.Proper.{tritsOf, shadowsOf, Proper}
+use Rattle.format.specs.Proper.{tritsOf, shadowsOf, ProperTrits}
 use Rattle.format.specs.Edges.{Edge, operandAt, edgeAt, edgeList, operandEdges, isEdge, userOf}
 use Rattle.format.proofs.Laws.{both-true, rank-mono, length-run, getD-run, length-keep, rank-here, getD-other, length-keep-key}
 use Rattle.format.proofs.Select.{place-of, length-places}
@@ -26,7 +26,7 @@ use Rattle.format.proofs.Laws.{rank-count}
 -- ---- an image gives its trits and shadows back
 
 -- two proper tables' images are the same only where trits and shadows are
-pub image-injective : (t H t′ H′ : List ℕ) → Proper t H → Proper t′ H′ → image t H ≡ image t′ H′ → (t ≡ t′) × (H ≡ H′)
+pub image-injective : (t H t′ H′ : List ℕ) → ProperTrits t H → ProperTrits t′ H′ → image t H ≡ image t′ H′ → (t ≡ t′) × (H ≡ H′)
 image-injective t H t′ H′ p p′ e =
     (sym (trits-of-image t H p) ∙ ap tritsOf e ∙ trits-of-image t′ H′ p′, sym (shadows-of-image t H p) ∙ ap shadowsOf e ∙ shadows-of-image t′ H′ p′)
 
@@ -59,7 +59,7 @@ edge-places trits =
 
 -- ---- an edge's user and operand are nodes
 
-pub user-node : (trits H : List ℕ) → Proper trits H → (p : ℕ) → p < length trits → rank 0 trits p ≤ nodeCount trits
+pub user-node : (trits H : List ℕ) → ProperTrits trits H → (p : ℕ) → p < length trits → rank 0 trits p ≤ nodeCount trits
 user-node trits H pr p l =
     let q : ℕ = length trits - 1 in
     let one : 1 ≤ length trits = pr .length-low in
@@ -67,7 +67,7 @@ user-node trits H pr p l =
     let z : getD trits q 0 ≡ 0 = getD-other trits q 0 3 lq ∙ last-zero trits (pr .is-balanced) in
     omega (arith, rank-mono 0 trits p q (omega arith), rank-here 0 trits q lq z, rank-count 0 trits (suc q), zeros-ones trits (pr .is-balanced))
 
-pub operand-node : (trits H : List ℕ) → Proper trits H → (p : ℕ) → p < length trits → operandAt trits H p ≤ nodeCount trits
+pub operand-node : (trits H : List ℕ) → ProperTrits trits H → (p : ℕ) → p < length trits → operandAt trits H p ≤ nodeCount trits
 unfolding operandAt nodeCount shadowAt
 operand-node trits H pr p l = go (eqb (getD trits p 0) 1) refl
   where
@@ -92,7 +92,7 @@ nodes-map n f [] h j l = absurd (not-suc-le-zero l)
 nodes-map n f (x ∷ xs) h zero l = h zero (suc-le-suc zero-le)
 nodes-map n f (x ∷ xs) h (suc j) l = nodes-map n f xs (λ i k. h (suc i) (suc-le-suc k)) j (le-of-suc-le-suc l)
 
-pub length-edges : (trits H : List ℕ) → Proper trits H → length (edgeList trits H) ≡ edgeCount trits
+pub length-edges : (trits H : List ℕ) → ProperTrits trits H → length (edgeList trits H) ≡ edgeCount trits
 unfolding edgeList operandEdges edgeAt rank
 length-edges trits H pr =
     let n : ℕ = nodeCount trits in
@@ -113,6 +113,6 @@ unfolding group
 group-twos trits H i =
     each-kept (λ p. getD trits p 0 ≡ 2) (λ p. eqb (shadowAt trits H p) i) (places 2 trits) (λ j l. place-of 2 trits j (subst (λ (k : ℕ). j < k) (length-places 2 trits) l) .holds)
 
-pub operands-le : (trits H : List ℕ) → Proper trits H → (i : ℕ) → length (operandEdges trits H i) ≤ edgeCount trits
+pub operands-le : (trits H : List ℕ) → ProperTrits trits H → (i : ℕ) → length (operandEdges trits H i) ≤ edgeCount trits
 unfolding operandEdges
 operands-le trits H pr i = omega (arith, length-keep (λ e. eqb (e .user) i) (edgeList trits H), length-edges trits H pr)

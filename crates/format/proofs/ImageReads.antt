@@ -11,7 +11,7 @@ use lib.Seq.{drop-cons, take-append-le, drop-append-le, drop-append-add, drop-dr
 use Rattle.format.specs.Lists.{run, consIf, countIn, up, horner, Below, keep}
 use Rattle.format.specs.Trits.{rank, places, trytes}
 use Rattle.format.specs.Image.{leBytes, leNumber, bytes, nodeCount, marks, markWords, group, grouped, markedNodes, starts, pair, pairs, lastMultiple, markSamples, Section, section1, section2, section3, section4, section5, section6, section7, section8, section9, given, written, image, shadowAt}
-use Rattle.format.specs.Proper.{Proper}
+use Rattle.format.specs.Proper.{ProperTrits}
 use Rattle.format.proofs.Laws.{length-run, getD-run, getD-each, rank-le, count-le}
 use Rattle.format.proofs.Digits.{horner-digits, horner-lt, length-spread, spread-at, gather-at, length-gather, block, below-block, length-block}
 use Rattle.format.proofs.Select.{place-of, length-places, rank-cut}
@@ -210,7 +210,7 @@ at9 L k n h = at8 L k n h + 2 * (L / 25 + 1) + 4
 abbrev pub read : ℕ → ℕ → List ℕ → ℕ
 read w at b = leNumber (take w (drop at b))
 
-module _ (trits H : List ℕ) (p : Proper trits H) where
+module _ (trits H : List ℕ) (p : ProperTrits trits H) where
   pub read-tryte : (i : ℕ) → i < length (trytes trits) → getD (image trits H) (4 + i) 0 ≡ getD (trytes trits) i 0
   unfolding image section1 trytes
   read-tryte i l = byte-at [] (section2 trits H ∷ given trits H) (section1 trits H) i l

@@ -22,6 +22,7 @@ pub mod CheckLaws
 pub mod Steps
 pub mod ImageReads
 pub mod Marks
+pub mod UsesIndexed
 pub mod Rising
 pub mod Tryte
 -- edges and questions
@@ -40,6 +41,7 @@ pub mod Replies
 pub mod Ranges
 pub mod Widths
 pub mod Listed
+pub mod ListingLaws
 pub mod OneToOne
 pub mod Answered
 pub mod Determined

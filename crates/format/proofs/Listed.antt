@@ -134,13 +134,13 @@ table-few table l = go (readTable table) refl
     few : (f : ℕ) → length (refusal f) ≤ 100000
     few f = omega (arith, refusal-few f)
 
-    whole : (g : Graph) → readTable table ≡ graph g → (b : Bool) → reached g ≡ b → length (cond b (listing (walk g .trits) (walk g .shadows)) (refusal 8)) ≤ 100000
-    whole g e false r = omega (arith, refusal-few 8)
-    whole g e true r = listed-few table g (record { read = e; reaches = T-of (reached g) r }) l
+    settled : (g : Graph) → readTable table ≡ graph g → (b : Bool) → reached g ≡ b → length (cond b (listing (walk g .trits) (walk g .shadows)) (refusal 8)) ≤ 100000
+    settled g e false r = omega (arith, refusal-few 8)
+    settled g e true r = listed-few table g (record { read = e; reaches = T-of (reached g) r }) l
 
     go : (r : Read) → readTable table ≡ r → length (tableText r) ≤ 100000
     go (faulty f) e = few f
-    go (graph g) e = whole g e (reached g) refl
+    go (graph g) e = settled g e (reached g) refl
 
 pub text-few : (input : List ℕ) → length (listingText input) ≤ 100000
 unfolding listingText fromBytes

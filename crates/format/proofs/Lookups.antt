@@ -13,7 +13,7 @@ use borrow.Author.Tests.{lt-ltb}
 use Rattle.format.specs.Lists.{bit, run, consIf, countIn, numbered}
 use Rattle.format.specs.Trits.{rank}
 use Rattle.format.specs.Image.{nodeCount, rootCount, markedNodes, group, grouped, lastMultiple, image}
-use Rattle.format.specs.Proper.{Proper}
+use Rattle.format.specs.Proper.{ProperTrits}
 use Rattle.format.specs.Edges.{Edge, edgeAt, operandEdges, useEdges}
 use Rattle.format.proofs.Laws.{length-run, getD-run}
 use Rattle.format.proofs.Select.{rank-samples, getElem-none}
@@ -25,7 +25,7 @@ use Rattle.format.proofs.ImageReads.{read, at6, at7, at8, pairs-at, rea
 -- ---- rank
 
 -- the three samples of a place p add up to the rank before the last multiple of 25; t is 0 or 1
-pub sampled : (trits H : List ℕ) → Proper trits H → (t p : ℕ) → t < 2 → p ≤ length trits
+pub sampled : (trits H : List ℕ) → ProperTrits trits H → (t p : ℕ) → t < 2 → p ≤ length trits
     → read 4 (at6 (length trits) (length H) (nodeCount trits) (length (markedNodes trits H)) + 4 * (2 * (p / 65725) + t)) (image trits H)
     + read 2 (at7 (length trits) (length H) (nodeCount trits) (length (markedNodes trits H)) + 2 * (2 * (p / 275) + t)) (image trits H)
     + read 1 (at8 (length trits) (length H) (nodeCount trits) (length (markedNodes trits H)) + 1 * (2 * (p / 25) + t)) (image trits H)
@@ -55,7 +55,7 @@ getElem-map f (x ∷ xs) zero h = refl
 getElem-map f (x ∷ xs) (suc j) h = getElem-map f xs j (le-of-suc-le-suc h)
 
 -- operand number b of node i stands b places after its zero
-pub operand-at : (trits H : List ℕ) → Proper trits H → (i b : ℕ) → 1 ≤ i → i ≤ nodeCount trits → 1 ≤ b → b < nth 0 trits (suc i) - nth 0 trits i
+pub operand-at : (trits H : List ℕ) → ProperTrits trits H → (i b : ℕ) → 1 ≤ i → i ≤ nodeCount trits → 1 ≤ b → b < nth 0 trits (suc i) - nth 0 trits i
     → numbered (operandEdges trits H i) b ≡ some (edgeAt trits H (nth 0 trits i + b))
 operand-at trits H p i zero hi li hb lb = absurd (not-suc-le-zero hb)
 operand-at trits H p i (suc b) hi li hb lb =
@@ -65,7 +65,7 @@ operand-at trits H p i (suc b) hi li hb lb =
     ∙ getElem-map (edgeAt trits H) (run (suc z) c) b (omega (arith, length-run (suc z) c))
     ∙ ap {B = Option Edge} (λ k. some (edgeAt trits H k)) (getD-run (suc z) c b 0 (omega arith) ∙ suc-add z b ∙ sym (add-suc z b))
 
-pub operand-none : (trits H : List ℕ) → Proper trits H → (i b : ℕ) → 1 ≤ i → i ≤ nodeCount trits → nth 0 trits (suc i) - nth 0 trits i ≤ b
+pub operand-none : (trits H : List ℕ) → ProperTrits trits H → (i b : ℕ) → 1 ≤ i → i ≤ nodeCount trits → nth 0 trits (suc i) - nth 0 trits i ≤ b
     → numbered (operandEdges trits H i) b ≡ none
 operand-none trits H p i zero hi li lb = refl
 operand-none trits H p i (suc b) hi li lb = getElem-none (operandEdges trits H i) b (omega (arith, operand-count trits H p i hi li))
@@ -73,7 +73,7 @@ operand-none trits H p i (suc b) hi li lb = getElem-none (operandEdges trits H i
 -- ---- uses
 
 -- the real one comes first: node i's own 1, where i is no root
-pub use-real : (trits H : List ℕ) → Proper trits H → (i : ℕ) → rootCount trits < i → i ≤ nodeCount trits
+pub use-real : (trits H : List ℕ) → ProperTrits trits H → (i : ℕ) → rootCount trits < i → i ≤ nodeCount trits
     → numbered (useEdges trits H i) 1 ≡ some (edgeAt trits H (nth 1 trits i))
 use-real trits H p i hi li =
     ap (λ (es : List Edge). getElem? es 0) (uses-places trits H p i (omega arith) li
@@ -84,7 +84,7 @@ length-real true x = refl
 length-real false x = refl
 
 -- then the shadows: entry j of the group, which stands in section 5 from the node's start on
-pub use-shadow : (trits H : List ℕ) → Proper trits H → (i j : ℕ) → i < nodeCount trits → j < countIn (suc i) H
+pub use-shadow : (trits H : List ℕ) → ProperTrits trits H → (i j : ℕ) → i < nodeCount trits → j < countIn (suc i) H
     → numbered (useEdges trits H (suc i)) (suc (bit (ltb (rootCount trits) (suc i)) + j))
     ≡ some (edgeAt trits H (getD (grouped trits H (nodeCount trits)) (length (grouped trits H i) + j) 0))
 use-shadow trits H p i j li lj =
@@ -101,7 +101,7 @@ use-shadow trits H p i j li lj =
     ∙ getD-take (length G) (drop (length (grouped trits H i)) all) j 0 (omega arith)
     ∙ getD-drop (length (grouped trits H i)) all j 0)
 
-pub use-none : (trits H : List ℕ) → Proper trits H → (i b : ℕ) → 1 ≤ i → i ≤ nodeCount trits → bit (ltb (rootCount trits) i) + countIn i H < b
+pub use-none : (trits H : List ℕ) → ProperTrits trits H → (i b : ℕ) → 1 ≤ i → i ≤ nodeCount trits → bit (ltb (rootCount trits) i) + countIn i H < b
     → numbered (useEdges trits H i) b ≡ none
 use-none trits H p i zero hi li lb = refl
 use-none trits H p i (suc b) hi li lb = getElem-none (useEdges trits H i) b (omega (arith, use-count trits H p i hi li))

@@ -17,7 +17,7 @@ use Rattle.format.specs.Table.{Graph, nodes, operandsOf, words}
 use Rattle.format.specs.Trits.{rank}
 use Rattle.format.specs.Image.{nodeCount, rootCount, image}
 use Rattle.format.specs.Edges.{Edge, operandAt, edgeAt, edgeList, operandEdges, useEdges, isEdge, operandOf, userOf}
-use Rattle.format.specs.Proper.{Proper}
+use Rattle.format.specs.Proper.{ProperTrits}
 use Rattle.format.specs.Unpack.{unpack}
 use Rattle.format.specs.Packing.{Accepted, imageOf}
 use Rattle.format.proofs.Cutting.{operandNumbers, inFront, cut, asGraph, scanned}
@@ -68,7 +68,7 @@ module _ (i : ℕ) where
       go (no l) (no e) [] = let k : i - z ≡ suc (i - suc z) = omega arith in simp (ne-eqb z i e, le-ltb i z (omega arith), k)
       go (no l) (no e) (r ∷ rs) = let k : i - z ≡ suc (i - suc z) = omega arith in simp (ne-eqb z i e, le-ltb i z (omega arith), k)
 
-  module _ (ts hs : List ℕ) (pr : Proper ts hs) (pos : 1 ≤ i) where
+  module _ (ts hs : List ℕ) (pr : ProperTrits ts hs) (pos : 1 ≤ i) where
     -- an edge of node i stands at p
     mine : ℕ → Bool
     mine p = isEdge ts p && eqb (rank 0 ts p) i
@@ -168,7 +168,7 @@ module _ (i : ℕ) where
         first (suc j) (r ∷ rows) h = let k : suc j - 0 ≡ suc j = omega arith in simp (le-ltb (suc j) 0 (omega arith), k)
 
 -- so the unpacked table has them, node by node
-pub scanned-operands : (ts hs : List ℕ) → Proper ts hs → scanned ts hs .operands ≡ map (λ (i : ℕ). map operandOf (operandEdges ts hs i)) (oneTo (nodeCount ts))
+pub scanned-operands : (ts hs : List ℕ) → ProperTrits ts hs → scanned ts hs .operands ≡ map (λ (i : ℕ). map operandOf (operandEdges ts hs i)) (oneTo (nodeCount ts))
 unfolding operandsOf
 scanned-operands ts hs pr =
     let n : ℕ = nodeCount ts in
@@ -178,17 +178,17 @@ scanned-operands ts hs pr =
     (λ i h. sym (operands-scanned (suc i) ts hs pr (suc-le-suc zero-le)) ∙ sym (getD-map-run F 1 n i [] (omega arith) ∙ ap F (one-add i)))
 
 -- the scan gives the unpacked table
-pub unpack-scanned : (ts hs : List ℕ) → Proper ts hs → unpack ts hs ≡ scanned ts hs
+pub unpack-scanned : (ts hs : List ℕ) → ProperTrits ts hs → unpack ts hs ≡ scanned ts hs
 unfolding unpack rootCount
 unpack-scanned ts hs pr = λ i. record { operands = sym (scanned-operands ts hs pr) i; roots = sym (proper-roots ts hs (scan-of ts hs pr)) i }
 
-pub unpack-accepted : (ts hs : List ℕ) → Proper ts hs → Accepted (words (unpack ts hs)) (unpack ts hs)
+pub unpack-accepted : (ts hs : List ℕ) → ProperTrits ts hs → Accepted (words (unpack ts hs)) (unpack ts hs)
 unpack-accepted ts hs pr = subst (λ (g : Graph). Accepted (words g) g) (sym (unpack-scanned ts hs pr)) (scanned-accepted ts hs pr)
 
-pub unpack-image : (ts hs : List ℕ) → Proper ts hs → imageOf (unpack ts hs) ≡ image ts hs
+pub unpack-image : (ts hs : List ℕ) → ProperTrits ts hs → imageOf (unpack ts hs) ≡ image ts hs
 unpack-image ts hs pr = ap imageOf (unpack-scanned ts hs pr) ∙ scanned-image ts hs pr
 
-pub unpack-nodes : (ts hs : List ℕ) → Proper ts hs → nodes (unpack ts hs) ≡ nodeCount ts
+pub unpack-nodes : (ts hs : List ℕ) → ProperTrits ts hs → nodes (unpack ts hs) ≡ nodeCount ts
 unpack-nodes ts hs pr = ap nodes (unpack-scanned ts hs pr) ∙ scanned-counts ts hs pr .0
 
 -- ---- the edges are the operand lists of nodes 1 to n, one after the other
@@ -258,7 +258,7 @@ keep-join : {A : Type 0} (f : A → Bool) (xss : List (List A)) → keep f (join
 keep-join f [] = refl
 keep-join {A} f (xs ∷ xss) = keep-append f xs (join xss) ∙ ap (λ (l : List A). keep f xs ++ l) (keep-join f xss)
 
-module _ (ts hs : List ℕ) (pr : Proper ts hs) where
+module _ (ts hs : List ℕ) (pr : ProperTrits ts hs) where
   -- by user rising, then by operand number rising
   pub edge-rows : edgeList ts hs ≡ join (map (operandEdges ts hs) (oneTo (nodeCount ts)))
   unfolding edgeList operandEdges edgeAt
@@ -295,7 +295,7 @@ users-in i v (e ∷ es) = elim (ℕ-discrete (e .user) i) [
   ]
 ]
 
-pub users-of : (ts hs : List ℕ) → Proper ts hs → (v : ℕ)
+pub users-of : (ts hs : List ℕ) → ProperTrits ts hs → (v : ℕ)
     → map userOf (useEdges ts hs v) ≡ join (map (λ (i : ℕ). replicate (countIn v (map operandOf (operandEdges ts hs i))) i) (oneTo (nodeCount ts)))
 unfolding operandEdges
 users-of ts hs pr v =

@@ -8,7 +8,7 @@ use lib.Dec.{lit<, lit≤}
 use Rattle.format.specs.Lists.{up, Below}
 use Rattle.format.specs.Trits.{rank, trytes, tryteCount}
 use Rattle.format.specs.Image.{nodeCount, markedNodes, image, lastMultiple}
-use Rattle.format.specs.Proper.{checkImage, tritsOf, shadowsOf, Proper}
+use Rattle.format.specs.Proper.{checkImage, tritsOf, shadowsOf, ProperTrits}
 use Rattle.format.proofs.Select.{rank-tryte}
 use Rattle.format.proofs.Sizes.{imageLength, length-image, length-trytes}
 use Rattle.format.proofs.CheckLaws.{image-passed, shadow-nodes}
@@ -26,7 +26,7 @@ unfoldable pub start8 : List ℕ → ℕ
 start8 b = at8 (length (tritsOf b)) (length (shadowsOf b)) (nodeCount (tritsOf b)) (length (markedNodes (tritsOf b) (shadowsOf b)))
 
 module _ (b : List ℕ) (low : Below 256 b) (ok : checkImage b ≡ 0) where
-  pub proper-b : Proper (tritsOf b) (shadowsOf b)
+  pub proper-b : ProperTrits (tritsOf b) (shadowsOf b)
   proper-b = image-passed b low ok .proper
 
   pub same-b : b ≡ image (tritsOf b) (shadowsOf b)

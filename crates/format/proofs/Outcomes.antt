@@ -11,7 +11,7 @@ use lib.Dec.{T, leb, lit<}
 use lib.ListN.{length, length-append, drop, length-drop, replicate, length-replicate}
 use borrow.Author.Tests.{le-leb, leb-true, lt-leb}
 use Rattle.format.specs.Lists.{All, oneTo, over, sumOf, numbered}
-use Rattle.format.specs.Table.{Graph, nodes, edges, Node, counted, runs, words, isNode, Read, faulty, graph, readTable, WellFormed, Limits}
+use Rattle.format.specs.Table.{Graph, nodes, edges, Node, counted, listWords, words, isNode, Read, faulty, graph, readTable, WellFormed, WithinLimits}
 use Rattle.format.specs.Level.{levelOrder, reached}
 use Rattle.format.specs.Image.{nodeCount}
 use Rattle.format.specs.Faults.{fault, _then_}
@@ -116,30 +116,30 @@ module _ (image buffer : List ℕ) where
 
 -- ---- the words of a table
 
-length-runs : (os : List (List ℕ)) → length (runs os) ≡ length os + sumOf length os
-unfolding runs sumOf
+length-runs : (os : List (List ℕ)) → length (listWords os) ≡ length os + sumOf length os
+unfolding listWords sumOf
 length-runs [] = refl
-length-runs (xs ∷ os) = ap suc (length-append xs (runs os)) ∙ omega (arith, length-runs os)
+length-runs (xs ∷ os) = ap suc (length-append xs (listWords os)) ∙ omega (arith, length-runs os)
 
 -- "The length is exactly 2 + n + m + c words."
 pub length-words : (g : Graph) → length (words g) ≡ 2 + nodes g + edges g + length (g .roots)
 unfolding words
-length-words g = ap suc (length-append (runs (g .operands)) (counted (g .roots))) ∙ omega (arith, length-runs (g .operands))
+length-words g = ap suc (length-append (listWords (g .operands)) (counted (g .roots))) ∙ omega (arith, length-runs (g .operands))
 
-runs-fit : (n : ℕ) (os : List (List ℕ)) → n ≤ 30000 → sumOf length os ≤ 65535 → All (All (Node n)) os → All (λ w. w < 65536) (runs os)
-unfolding runs sumOf
+runs-fit : (n : ℕ) (os : List (List ℕ)) → n ≤ 30000 → sumOf length os ≤ 65535 → All (All (Node n)) os → All (λ w. w < 65536) (listWords os)
+unfolding listWords sumOf
 runs-fit n [] h m a = tt
 runs-fit n (xs ∷ os) h m a =
-    (omega arith, all-append (λ w. w < 65536) xs (runs os) (all-imp (Node n) (λ w. w < 65536) xs (λ x b. omega arith) (a .0)) (runs-fit n os h (omega arith) (a .1)))
+    (omega arith, all-append (λ w. w < 65536) xs (listWords os) (all-imp (Node n) (λ w. w < 65536) xs (λ x b. omega arith) (a .0)) (runs-fit n os h (omega arith) (a .1)))
 
 -- so each fits 16 bits
-pub words-fit : (g : Graph) → WellFormed g → Limits g → All (λ w. w < 65536) (words g)
+pub words-fit : (g : Graph) → WellFormed g → WithinLimits g → All (λ w. w < 65536) (words g)
 unfolding words
 words-fit g f l =
     let c : length (g .roots) ≤ nodes g = fits-length (nodes g) (g .roots) (f .roots-nodup) (f .roots-inside) in
     let n : nodes g ≤ 30000 = l .nodes-fit in (
       omega arith,
-      all-append (λ w. w < 65536) (runs (g .operands)) (counted (g .roots)) (runs-fit (nodes g) (g .operands) n (l .edges-fit) (f .inside))
+      all-append (λ w. w < 65536) (listWords (g .operands)) (counted (g .roots)) (runs-fit (nodes g) (g .operands) n (l .edges-fit) (f .inside))
           (omega arith, all-imp (Node (nodes g)) (λ w. w < 65536) (g .roots) (λ x b. omega arith) (f .roots-inside)),
     )
 

@@ -11,10 +11,10 @@ use lib.ListN.{length, take, drop, replicate, length-replicate, getD-replicate}
 use lib.Seq.{take-at}
 use native.Mathlib.Decide.{decLe}
 use Rattle.format.specs.Lists.{All, Below, over}
-use Rattle.format.specs.Table.{Graph, graph, nodes, Node, words, readTable, WellFormed, Limits}
+use Rattle.format.specs.Table.{Graph, graph, nodes, Node, words, readTable, WellFormed, WithinLimits}
 use Rattle.format.specs.Level.{walk, levelOrder, reached, Reach}
 use Rattle.format.specs.Image.{nodeCount, image}
-use Rattle.format.specs.Proper.{checkImage, tritsOf, shadowsOf}
+use Rattle.format.specs.Proper.{checkImage, tritsOf, shadowsOf, ProperTrits}
 use Rattle.format.specs.Renumbering.{renumbered, Renumbering}
 use Rattle.format.specs.Unpack.{UnpackOutcome, unpack, unpackOutcome}
 use Rattle.format.specs.Packing.{imageOf, Accepted, PackOutcome, RoomEnough, bytesOf, cleared, packOutcome, Kept}
@@ -37,7 +37,7 @@ use Rattle.format.proofs.Facts.{image-injective}
 
 -- what *accepted* means
 pub accepted-exactly : (table : List ℕ) (g : Graph)
-    → Accepted table g ↔ ((table ≡ words g) × WellFormed g × Limits g × ((v : ℕ) → Node (nodes g) v → Reach g v))
+    → Accepted table g ↔ ((table ≡ words g) × WellFormed g × WithinLimits g × ((v : ℕ) → Node (nodes g) v → Reach g v))
 accepted-exactly table g = (
   (λ a. let r = reads-as table g a in (r .0, r .1, r .2, reached-all g (r .1) .0 (a .reaches))),
   (λ r. record { read = ap readTable (r .0) ∙ read-words g (r .1) (r .2); reaches = reached-all g (r .1) .1 (r .3) }),
@@ -113,6 +113,12 @@ packing-kept table order work buffer =
 pub checker-passes : (table : List ℕ) (g : Graph) → Accepted table g → checkImage (imageOf g) ≡ 0
 unfolding imageOf
 checker-passes table g a = image-passes (walk g .trits) (walk g .shadows) (proper-table table g a)
+
+pub proper-exactly : (b : List ℕ) → Below 256 b → (checkImage b ≡ 0) ↔ ((trits : List ℕ) × (H : List ℕ) × ProperTrits trits H × (b ≡ image trits H))
+proper-exactly b low = (
+  (λ e. let s = image-passed b low e in (tritsOf b, shadowsOf b, s .proper, s .same)),
+  (λ t. ap checkImage (t .3) ∙ image-passes (t .0) (t .1) (t .2)),
+)
 
 pub checker-exact : (b : List ℕ) → Below 256 b → (checkImage b ≡ 0) ↔ ((table : List ℕ) × (g : Graph) × Accepted table g × (imageOf g ≡ b))
 checker-exact b low = (

@@ -5,7 +5,7 @@ use native.Mathlib.Omega.{arith}
 use native.Mathlib.Numerals.{one-add}
 use mathlib.Core.Path.{_≡_, refl, sym, ap, ap₂, _∙_, subst}
 use mathlib.Core.Bool.{Bool, true, false}
-use mathlib.Core.Option.{Option, some}
+use mathlib.Core.Option.{Option}
 use mathlib.Core.List.{List, [], _∷_, _++_, map}
 use lib.Dec.{eqb, leb, ltb}
 use lib.ListN.{length, getD, length-map, length-append}
@@ -13,10 +13,10 @@ use borrow.Author.Tests.{eqb-true, eq-eqb, ne-eqb, le-leb, leb-true, lt-ltb, le-
 use Rattle.format.specs.Lists.{bit, run, consIf, countIn}
 use Rattle.format.specs.Trits.{rank, places, select, Selected}
 use Rattle.format.specs.Image.{untilZero, nodeCount, rootCount, group, shadowAt}
-use Rattle.format.specs.Proper.{rootsFirst, balanced, grown, onesBefore, Proper}
+use Rattle.format.specs.Proper.{rootsFirst, balanced, grown, onesBefore, ProperTrits}
 use Rattle.format.specs.Edges.{edgeAt, operandEdges, useEdges}
 use Rattle.format.proofs.Laws.{both-true, count-three, every-run, run-every, length-run}
-use Rattle.format.proofs.Select.{select-at, select-found, place-of, place-rank, select-some}
+use Rattle.format.proofs.Select.{select-at, select-found, place-of}
 use Rattle.format.proofs.Sizes.{length-group}
 use Rattle.format.proofs.CheckLaws.{shadow-seen}
 use Rattle.format.proofs.EdgeLaws.{Seen, operandEdges-run, useEdges-run}
@@ -32,7 +32,7 @@ unfolding balanced
 last-zero trits e = eqb-true (getD trits (length trits - 1) 3) 0 (both-true (eqb (countIn 1 trits + 1) (countIn 0 trits)) (eqb (getD trits (length trits - 1) 3) 0) e .1)
 
 -- L = n + 1 + n + k
-pub length-trits : (trits H : List ℕ) → Proper trits H → length trits ≡ nodeCount trits + 1 + nodeCount trits + length H
+pub length-trits : (trits H : List ℕ) → ProperTrits trits H → length trits ≡ nodeCount trits + 1 + nodeCount trits + length H
 unfolding nodeCount
 length-trits trits H p = omega (arith, count-three trits (p .threes), zeros-ones trits (p .is-balanced), p .paired)
 
@@ -77,7 +77,7 @@ root-test trits i r s = go (rank 0 trits r) refl
 
 -- ---- every 2 stands after a zero, and its entry in H stands before it
 
-pub proper-seen : (trits H : List ℕ) → Proper trits H → Seen trits H
+pub proper-seen : (trits H : List ℕ) → ProperTrits trits H → Seen trits H
 unfolding rootsFirst shadowAt
 proper-seen trits H p q l e = (go (rank 0 trits q) refl, shadow-seen trits H (p .seen) q l e .1)
   where
@@ -97,22 +97,15 @@ nth-selected t trits j h l =
     let e : suc (j - 1) ≡ j = omega arith in
     subst (λ (x : ℕ). Selected t trits x (getD (places t trits) (j - 1) 0)) e (place-of t trits (j - 1) (omega arith))
 
-pub nth-select : (t : ℕ) (trits : List ℕ) (j p : ℕ) → select t trits j ≡ some p → nth t trits j ≡ p
-unfolding nth
-nth-select t trits j p e =
-    let s = select-some t trits j p e in
-    let k : j - 1 ≡ rank t trits p = omega (arith, s .ranked) in
-    ap (λ (i : ℕ). getD (places t trits) i 0) k ∙ place-rank t trits p (s .inside) (s .holds)
-
 -- operands and uses of node i, for a proper image
-pub operands-places : (trits H : List ℕ) → Proper trits H → (i : ℕ) → 1 ≤ i → i ≤ nodeCount trits
+pub operands-places : (trits H : List ℕ) → ProperTrits trits H → (i : ℕ) → 1 ≤ i → i ≤ nodeCount trits
     → operandEdges trits H i ≡ map (edgeAt trits H) (run (suc (nth 0 trits i)) (nth 0 trits (suc i) - suc (nth 0 trits i)))
 operands-places trits H p i h l =
     operandEdges-run trits H i (nth 0 trits i) (nth 0 trits (suc i)) h
     (nth-selected 0 trits i h (omega (arith, zeros-ones trits (p .is-balanced))))
     (nth-selected 0 trits (suc i) (suc-le-suc zero-le) (omega (arith, zeros-ones trits (p .is-balanced))))
 
-pub uses-places : (trits H : List ℕ) → Proper trits H → (i : ℕ) → 1 ≤ i → i ≤ nodeCount trits
+pub uses-places : (trits H : List ℕ) → ProperTrits trits H → (i : ℕ) → 1 ≤ i → i ≤ nodeCount trits
     → useEdges trits H i ≡ map (edgeAt trits H) (consIf (ltb (rootCount trits) i) (nth 1 trits i) [] ++ group trits H i)
 unfolding nodeCount
 uses-places trits H p i h l =
@@ -121,7 +114,7 @@ uses-places trits H p i h l =
     ∙ ap (λ (b : Bool). map (edgeAt trits H) (consIf b (nth 1 trits i) [] ++ group trits H i)) (root-test trits i (nth 1 trits i) s)
 
 -- counts of operands and of uses
-pub operand-count : (trits H : List ℕ) → Proper trits H → (i : ℕ) → 1 ≤ i → i ≤ nodeCount trits
+pub operand-count : (trits H : List ℕ) → ProperTrits trits H → (i : ℕ) → 1 ≤ i → i ≤ nodeCount trits
     → length (operandEdges trits H i) ≡ nth 0 trits (suc i) - nth 0 trits i - 1
 operand-count trits H p i h l =
     ap length (operands-places trits H p i h l)
@@ -133,7 +126,7 @@ length-consIf-nil : (b : Bool) (x : ℕ) → length (consIf b x []) ≡ bit b
 length-consIf-nil true x = refl
 length-consIf-nil false x = refl
 
-pub use-count : (trits H : List ℕ) → Proper trits H → (i : ℕ) → 1 ≤ i → i ≤ nodeCount trits
+pub use-count : (trits H : List ℕ) → ProperTrits trits H → (i : ℕ) → 1 ≤ i → i ≤ nodeCount trits
     → length (useEdges trits H i) ≡ bit (ltb (rootCount trits) i) + countIn i H
 use-count trits H p i h l =
     let real : List ℕ = consIf (ltb (rootCount trits) i) (nth 1 trits i) [] in

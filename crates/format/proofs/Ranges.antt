@@ -15,7 +15,7 @@ use Rattle.format.specs.Table.{isNode, words}
 use Rattle.format.specs.Trits.{rank, select}
 use Rattle.format.specs.Image.{nodeCount, edgeCount}
 use Rattle.format.specs.Faults.{fault, _then_}
-use Rattle.format.specs.Proper.{Proper, checkImage, tritsOf, shadowsOf, ImageCode}
+use Rattle.format.specs.Proper.{ProperTrits, checkImage, tritsOf, shadowsOf, ImageCode}
 use Rattle.format.specs.Edges.{Edge, isEdge, edgeAt, edgeList, operandEdges, useEdges}
 use Rattle.format.specs.Question.{Reply, refused, plain, within, placeOr33, operandOr33, userOr33, answer, tritAnswer, rankAnswer, selectAnswer, operandCount, operandAnswer, useCount, useAnswer}
 use Rattle.format.specs.Answers.{Answerable}
@@ -119,7 +119,7 @@ all-keep P f (e ∷ es) a = go (f e) (all-keep P f es (a .1))
     go true h = (a .0, h)
     go false h = h
 
-module _ (trits H : List ℕ) (p : Proper trits H) where
+module _ (trits H : List ℕ) (p : ProperTrits trits H) where
   all-edges : (P : Edge → Type 0) → ((q : ℕ) → Edged trits q → P (edgeAt trits H q)) → All P (edgeList trits H)
   unfolding edgeList
   all-edges P h =
@@ -173,7 +173,7 @@ module _ (trits H : List ℕ) (p : Proper trits H) where
 
 -- ---- the words of a batch fit 32 bits
 
-module _ (trits H : List ℕ) (p : Proper trits H) where
+module _ (trits H : List ℕ) (p : ProperTrits trits H) where
   words-low : (qs : List ℕ) → Below 4294967296 (join (map threeWords (answers trits H qs)))
   words-low [] = λ i l. absurd (not-suc-le-zero l)
   words-low (k ∷ []) = λ i l. absurd (not-suc-le-zero l)

@@ -6,11 +6,11 @@ use native.Mathlib.Nat.{le-antisymm}
 use native.Mathlib.Omega.{arith}
 use mathlib.Core.List.{List, [], _∷_, List·Memᴰ, List·Memᴰ·head, List·Memᴰ·tail, Memᴰ·append-left, Memᴰ·append-right}
 use lib.ListN.{length, take, drop, length-append}
-use lib.Seq.{take-all}
+use lib.Seq.{take-all, take-append-seam}
 use lib.Dec.{T, eqb, eqb→eq, eqb-refl}
 use Rattle.format.specs.Lists.{All, oneTo}
 use Rattle.format.specs.Table.{Graph, nodes, Node, operandsOf, WellFormed}
-use Rattle.format.specs.Level.{Walk, see, seeAll, visit, start, taken, turns, walk, levelOrder, reached, Reach, root, further}
+use Rattle.format.specs.Level.{Walk, see, seeAll, visit, superRoot, taken, turns, walk, levelOrder, reached, Reach, root, further}
 use Rattle.format.proofs.Laws.{length-run}
 use Rattle.format.proofs.Places.{all-append, all-drop, all-imp, all-mem, number-mem, complete, perm-length, nodup-run, all-run, take-end, take-next}
 use Rattle.format.proofs.Walks.{see-cases, seeAll-grows, Grows, inv-turns, turns-grows, see-all}
@@ -21,6 +21,11 @@ use Rattle.format.proofs.Order.{order-mem, fits-length}
 pub walk-short : (g : Graph) → WellFormed g → length (walk g .queue) ≤ nodes g
 unfolding walk
 walk-short g f = fits-length (nodes g) (walk g .queue) (inv-turns g f (nodes g) .nodup) (inv-turns g f (nodes g) .inside)
+
+-- "Roots enter the queue in list order", before all others
+pub roots-order : (g : Graph) → take (length (g .roots)) (levelOrder g) ≡ g .roots
+unfolding levelOrder walk
+roots-order g = let r = turns-grows g (nodes g) in ap (take (length (g .roots))) (r .1) ∙ take-append-seam (g .roots) (r .0)
 
 -- ---- what is in the queue is reached
 
@@ -39,7 +44,7 @@ reach-taken g [] w h a = a
 reach-taken g (v ∷ l) w h a = seeAll-all (Reach g) (operandsOf g v) w (all-of (Reach g) (operandsOf g v) (λ u m. further (h .0) m)) a
 
 reach-turns : (g : Graph) (i : ℕ) → All (Reach g) (turns g i .queue)
-unfolding turns start
+unfolding turns superRoot
 reach-turns g zero = all-of (Reach g) (g .roots) (λ v m. root m)
 reach-turns g (suc i) =
     let w : Walk = turns g i in

@@ -8,7 +8,7 @@ use lib.ListN.{length}
 use lib.Seq.{append-snoc}
 use lib.Dec.{T, leb, eqb, leb→le, le→leb, eqb→eq, eqb-refl}
 use Rattle.format.specs.Lists.{All, numberIn, sumOf, Nodup}
-use Rattle.format.specs.Table.{Graph, nodes, Node, isNode, counted, runs, words, Got, stopped, got, andThen, need, word, readOperands, readNodes, readRoots, readGraph, graph, whole, readTable, WellFormed, Limits, Front}
+use Rattle.format.specs.Table.{Graph, nodes, Node, isNode, counted, listWords, words, Got, stopped, got, andThen, need, word, readOperands, readNodes, readRoots, readGraph, graph, wholeTable, readTable, WellFormed, WithinLimits, Front}
 use Rattle.format.proofs.Places.{nodup-mid, nodup-snoc}
 use Rattle.format.proofs.Walks.{is-node}
 
@@ -60,11 +60,11 @@ list-on n k m vs us rest a h =
     ∙ ap (nextLists n k (m + length vs)) (ap (readOperands n (length vs)) (append-assoc vs us rest) ∙ read-operands n vs (us ++ rest) a)
 
 read-nodes : (n : ℕ) (os : List (List ℕ)) (m : ℕ) (rest : List ℕ) → All (All (Node n)) os → m + sumOf length os ≤ 65535
-    → readNodes n (length os) m (runs os ++ rest) ≡ got os rest
-unfolding readNodes runs sumOf
+    → readNodes n (length os) m (listWords os ++ rest) ≡ got os rest
+unfolding readNodes listWords sumOf
 read-nodes n [] m rest a h = refl
 read-nodes n (vs ∷ os) m rest a h =
-    list-on n (length os) m vs (runs os) rest (a .0) (omega arith) ∙ ap (onto vs) (read-nodes n os (m + length vs) rest (a .1) (omega arith))
+    list-on n (length os) m vs (listWords os) rest (a .0) (omega arith) ∙ ap (onto vs) (read-nodes n os (m + length vs) rest (a .1) (omega arith))
 
 -- the same for a root
 pub root-on : (n k : ℕ) (before : List ℕ) (v : ℕ) (ws : List ℕ) → Node n v → numberIn v before ≡ 0
@@ -94,22 +94,22 @@ unfolding readGraph word
 size-on n ws h = need-yes (leb n 30000) 2 _ (le→leb n 30000 h)
 
 -- n and n operand lists in order: the roots are read next
-pub lists-on : (n : ℕ) (os : List (List ℕ)) (ws : List ℕ) → Front n os → length os ≡ n → readGraph (n ∷ runs os ++ ws) ≡ readEnd n os ws
+pub lists-on : (n : ℕ) (os : List (List ℕ)) (ws : List ℕ) → Front n os → length os ≡ n → readGraph (n ∷ listWords os ++ ws) ≡ readEnd n os ws
 lists-on n os ws f l =
-    size-on n (runs os ++ ws) (f .nodes-fit) ∙ ap (λ (r : Got (List (List ℕ))). andThen r (readEnd n))
-    (subst (λ (k : ℕ). readNodes n k 0 (runs os ++ ws) ≡ got os ws) l (read-nodes n os 0 ws (f .inside) (omega (arith, f .edges-fit))))
+    size-on n (listWords os ++ ws) (f .nodes-fit) ∙ ap (λ (r : Got (List (List ℕ))). andThen r (readEnd n))
+    (subst (λ (k : ℕ). readNodes n k 0 (listWords os ++ ws) ≡ got os ws) l (read-nodes n os 0 ws (f .inside) (omega (arith, f .edges-fit))))
 
-pub read-graph : (g : Graph) (ws : List ℕ) → WellFormed g → Limits g → readGraph (words g ++ ws) ≡ got g ws
+pub read-graph : (g : Graph) (ws : List ℕ) → WellFormed g → WithinLimits g → readGraph (words g ++ ws) ≡ got g ws
 unfolding words word
 read-graph g ws f l =
-    ap (λ (us : List ℕ). readGraph (nodes g ∷ us)) (append-assoc (runs (g .operands)) (counted (g .roots)) ws)
+    ap (λ (us : List ℕ). readGraph (nodes g ∷ us)) (append-assoc (listWords (g .operands)) (counted (g .roots)) ws)
     ∙ lists-on (nodes g) (g .operands) (counted (g .roots) ++ ws)
     (record { nodes-fit = l .nodes-fit; lists-fit = omega arith; edges-fit = l .edges-fit; inside = f .inside }) refl
     ∙ ap (withRoots (g .operands)) (read-roots (nodes g) (g .roots) [] ws (f .roots-inside) (f .roots-nodup))
 
-pub read-words : (g : Graph) → WellFormed g → Limits g → readTable (words g) ≡ graph g
+pub read-words : (g : Graph) → WellFormed g → WithinLimits g → readTable (words g) ≡ graph g
 unfolding readTable
-read-words g f l = ap whole (ap readGraph (sym (append-nil (words g))) ∙ read-graph g [] f l)
+read-words g f l = ap wholeTable (ap readGraph (sym (append-nil (words g))) ∙ read-graph g [] f l)
 
 -- ---- what is read is the words of a well-formed graph
 
@@ -150,13 +150,13 @@ got-operands n (suc k) us =
     record { are = e ∙ ap (λ (l : List ℕ). v ∷ l) (i .are); many = ap suc (i .many); inside = (is-node n v t, i .inside) }
 
 pub record Rows (n k m : ℕ) (us : List ℕ) (os : List (List ℕ)) (ws : List ℕ) : Type 0 where
-  pub are : us ≡ runs os ++ ws
+  pub are : us ≡ listWords os ++ ws
   pub many : length os ≡ k
   pub inside : All (All (Node n)) os
   pub fit : m + sumOf length os ≤ 65535
 
 pub got-nodes : (n k m : ℕ) (us : List ℕ) → m ≤ 65535 → Holds (Rows n k m us) (readNodes n k m us)
-unfolding readNodes runs sumOf
+unfolding readNodes listWords sumOf
 got-nodes n zero m us h = record { are = refl; many = refl; inside = tt; fit = omega arith }
 got-nodes n (suc k) m us h =
     holds-then (Word us) (Rows n (suc k) m us) (word us) _ (got-word us) λ c ws₁ e.
@@ -164,7 +164,7 @@ got-nodes n (suc k) m us h =
     holds-then (Operands n c ws₁) (Rows n (suc k) m us) (readOperands n c ws₁) _ (got-operands n c ws₁) λ vs ws₂ i.
     holds-then (Rows n k (m + c) ws₂) (Rows n (suc k) m us) (readNodes n k (m + c) ws₂) _ (got-nodes n k (m + c) ws₂ (leb→le (m + c) 65535 t)) λ os ws₃ j.
     record {
-      are = e ∙ (λ x. sym (i .many) x ∷ (i .are ∙ ap (λ (l : List ℕ). vs ++ l) (j .are) ∙ sym (append-assoc vs (runs os) ws₃)) x);
+      are = e ∙ (λ x. sym (i .many) x ∷ (i .are ∙ ap (λ (l : List ℕ). vs ++ l) (j .are) ∙ sym (append-assoc vs (listWords os) ws₃)) x);
       many = ap suc (j .many);
       inside = (i .inside, j .inside);
       fit = omega (arith, i .many, j .fit);
@@ -195,7 +195,7 @@ got-roots n (suc k) before us d =
 pub record TableOf (us : List ℕ) (g : Graph) (ws : List ℕ) : Type 0 where
   pub are : us ≡ words g ++ ws
   pub formed : WellFormed g
-  pub limits : Limits g
+  pub limits : WithinLimits g
 
 pub got-graph : (us : List ℕ) → Holds (TableOf us) (readGraph us)
 unfolding readGraph words
@@ -208,7 +208,7 @@ got-graph us =
     let g : Graph = record { operands = os; roots = rs } in
     record {
       are = e ∙ (λ x. sym (j .many) x ∷ (j .are
-          ∙ ap (λ (l : List ℕ). runs os ++ l) (e′ ∙ (λ y. sym (i .many) y ∷ i .are y)) ∙ sym (append-assoc (runs os) (counted rs) ws₄)) x);
+          ∙ ap (λ (l : List ℕ). listWords os ++ l) (e′ ∙ (λ y. sym (i .many) y ∷ i .are y)) ∙ sym (append-assoc (listWords os) (counted rs) ws₄)) x);
       formed = record {
         inside = subst (λ (x : ℕ). All (All (Node x)) os) (sym (j .many)) (j .inside);
         roots-inside = subst (λ (x : ℕ). All (Node x) rs) (sym (j .many)) (i .inside);
@@ -217,12 +217,12 @@ got-graph us =
       limits = record { nodes-fit = subst (λ (x : ℕ). x ≤ 30000) (sym (j .many)) (leb→le n 30000 t); edges-fit = omega (arith, j .fit) };
     }
 
-whole-graph : (r : Got Graph) (g : Graph) → whole r ≡ graph g → r ≡ got g []
+whole-graph : (r : Got Graph) (g : Graph) → wholeTable r ≡ graph g → r ≡ got g []
 whole-graph (stopped f) g e = absurd (let z : _≡_ {A = ℕ} 0 1 = cc in omega arith)
 whole-graph (got h []) g e = cc
 whole-graph (got h (w ∷ ws)) g e = absurd (let z : _≡_ {A = ℕ} 0 1 = cc in omega arith)
 
-pub words-read : (us : List ℕ) (g : Graph) → readTable us ≡ graph g → (us ≡ words g) × WellFormed g × Limits g
+pub words-read : (us : List ℕ) (g : Graph) → readTable us ≡ graph g → (us ≡ words g) × WellFormed g × WithinLimits g
 unfolding readTable
 words-read us g e =
     let h = subst (Holds (TableOf us)) (whole-graph (readGraph us) g e) (got-graph us) in

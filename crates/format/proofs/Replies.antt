@@ -14,7 +14,7 @@ use Rattle.format.specs.Lists.{All, bit, consIf, numbered, nodeAt, count
 use Rattle.format.specs.Table.{isNode}
 use Rattle.format.specs.Trits.{rank, select, Selected}
 use Rattle.format.specs.Image.{nodeCount, rootCount, group}
-use Rattle.format.specs.Proper.{Proper}
+use Rattle.format.specs.Proper.{ProperTrits}
 use Rattle.format.specs.Edges.{Edge, operandOf, userOf, edgeAt, operandEdges, useEdges}
 use Rattle.format.specs.Question.{plain, within, placeOr33, operandOr33, userOr33, answer, tritAnswer, rankAnswer, selectAnswer, operandCount, operandAnswer, useCount, useAnswer, says, Beyond, Kinds}
 use Rattle.format.proofs.Laws.{true-both, last-false}
@@ -113,7 +113,7 @@ module _ (trits H : List ℕ) where
   uses-sort true r G e a (suc j) h = twos-sort G a j (omega arith) ∙ ap (λ (t : Bool). cond t 1 2) (sym (ne-eqb (suc (suc j)) 1 (λ q. omega arith)))
   uses-sort false r G e a j h = twos-sort G a j (omega arith)
 
-  module _ (p : Proper trits H) (i : ℕ) (l : 1 ≤ i) (u : i ≤ nodeCount trits) where
+  module _ (p : ProperTrits trits H) (i : ℕ) (l : 1 ≤ i) (u : i ≤ nodeCount trits) where
     -- the operands of node i stand after the i-th zero
     module _ (row : List ℕ) (e : map operandOf (operandEdges trits H i) ≡ row) where
       row-length : length (operandEdges trits H i) ≡ length row

@@ -8,14 +8,9 @@ use mathlib.Core.Bool.{Bool, true, false}
 use mathlib.Core.List.{List, [], _∷_, List·Memᴰ, List·Memᴰ·head, List·Memᴰ·tail, List·Memᴰ·cases-cons, List·Memᴰ·not-nil}
 use lib.Dec.{eqb}
 use lib.ListN.{length, getD}
-use Rattle.format.specs.Lists.{run, consIf, keep}
+use Rattle.format.specs.Lists.{run, consIf, keep, RisingFrom}
 use Rattle.format.specs.Trits.{places}
 use Rattle.format.specs.Image.{shadowAt, group}
-
--- every element is at least a, and each is above the one before
-abbrev pub RisingFrom : ℕ → List ℕ → Type 0
-RisingFrom a [] = Unit {0}
-RisingFrom a (x ∷ xs) = (a ≤ x) × RisingFrom (suc x) xs
 
 pub rising-lower : (a b : ℕ) (xs : List ℕ) → b ≤ a → RisingFrom a xs → RisingFrom b xs
 rising-lower a b [] h r = tt
@@ -70,7 +65,7 @@ pub rising-keep : (f : ℕ → Bool) (a : ℕ) (xs : List ℕ) → RisingFrom a 
 rising-keep f a [] r = tt
 rising-keep f a (x ∷ xs) r = rising-consIf (f x) a x (keep f xs) (r .0) (rising-keep f (suc x) xs (r .1))
 
-rising-run : (a n : ℕ) → RisingFrom a (run a n)
+pub rising-run : (a n : ℕ) → RisingFrom a (run a n)
 rising-run a zero = tt
 rising-run a (suc n) = (le-refl a, rising-run (suc a) n)
 

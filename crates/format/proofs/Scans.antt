@@ -13,7 +13,7 @@ use native.Mathlib.Numerals.{one-add}
 use Rattle.format.specs.Image.{untilZero}
 use Rattle.format.specs.Lists.{run, All, countIn, numberIn, oneTo, Nodup}
 use Rattle.format.specs.Table.{Graph, nodes, Node, operandsOf, WellFormed}
-use Rattle.format.specs.Level.{Walk, enter, see, seeAll, close, visit, start, taken, turn, turns, walk, levelOrder}
+use Rattle.format.specs.Level.{Walk, enter, see, seeAll, close, visit, superRoot, taken, turn, turns, walk, levelOrder}
 use Rattle.format.proofs.Cutting.{operandNumbers, inFront, cut, asGraph, scanned}
 use Rattle.format.proofs.Laws.{count-append, length-run, getD-run, run-snoc}
 use Rattle.format.proofs.Places.{nodup-run, number-oneTo, number-next, number-le}
@@ -49,10 +49,10 @@ unfolding turnsFrom
 turnsFrom-last g z zero w = ap (λ (n : ℕ). turn g n w) (sym (add-zero z))
 turnsFrom-last g z (suc k) w = turnsFrom-last g (suc z) k (turn g z w) ∙ ap (λ (n : ℕ). turn g n (turnsFrom g (suc z) k (turn g z w))) (suc-add z k ∙ sym (add-suc z k))
 
-turns-from : (g : Graph) (k : ℕ) → turns g k ≡ turnsFrom g 0 k (start g)
+turns-from : (g : Graph) (k : ℕ) → turns g k ≡ turnsFrom g 0 k (superRoot g)
 unfolding turns turnsFrom
 turns-from g zero = refl
-turns-from g (suc k) = ap (turn g k) (turns-from g k) ∙ ap (λ (n : ℕ). turn g n (turnsFrom g 0 k (start g))) (sym (zero-add k)) ∙ sym (turnsFrom-last g 0 k (start g))
+turns-from g (suc k) = ap (turn g k) (turns-from g k) ∙ ap (λ (n : ℕ). turn g n (turnsFrom g 0 k (superRoot g))) (sym (zero-add k)) ∙ sym (turnsFrom-last g 0 k (superRoot g))
 
 -- ---- the walk of unpacked trits
 
@@ -364,7 +364,7 @@ count-ones zero = (refl, refl)
 count-ones (suc c) = let i = count-ones c in (omega arith, omega arith)
 
 ready-turns : (g : Graph) (i : ℕ) → Ready i (turns g i)
-unfolding turns start
+unfolding turns superRoot
 ready-turns g zero =
     let c = length (g .roots) in
     let k = count-ones c in

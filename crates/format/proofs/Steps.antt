@@ -5,17 +5,19 @@ use mathlib.Core.Path.{_≡_, refl, sym, ap, _∙_, subst}
 use mathlib.Core.Logic.{inl, inr}
 use mathlib.Core.Bool.{Bool, true, false}
 use mathlib.Core.List.{List, [], append-nil, _∷_}
-use lib.Dec.{eqb, leb, lit≤}
+use lib.Dec.{eqb, leb, lit≤, lit<}
 use lib.ListN.{length, getD, take, drop}
 use lib.Seq.{ext-getD}
+use borrow.Author.Tests.{eqb-true, lt-leb, le-leb, leb-true, eq-eqb}
+use native.Mathlib.Omega.{arith}
 use Rattle.format.specs.Lists.{same, up, countIn, Below}
 use Rattle.format.specs.Trits.{untrytes}
 use Rattle.format.specs.Image.{leNumber, bytes, fromBytes, Section, given}
 use Rattle.format.specs.Faults.{fault, _then_}
-use Rattle.format.specs.Proper.{countOf, contentsOf, restOf, checkGiven, size1, size2, contentsFault1, checkImage, bytesLow, padded, rootsFirst, balanced, grown, limits, shadowsSeen, sectionFault, fault1, fault2, tritsOf, after1, shadowsOf, after2, ImageCode, ContentsOrder1, CheckOrder}
+use Rattle.format.specs.Proper.{countOf, contentsOf, restOf, checkGiven, size1, size2, contentsFault1, checkImage, bytesLow, padded, rootsFirst, balanced, grown, limits, shadowsSeen, sectionFault, fault1, fault2, tritsOf, after1, shadowsOf, after2, ImageCode, Contents1Gives, givenFault, CheckerGives}
 use Rattle.format.proofs.Laws.{same-eq, same-refl}
 use Rattle.format.proofs.Digits.{gather-at, length-gather, up-mul}
-use Rattle.format.proofs.CheckLaws.{bytes-fromBytes}
+use Rattle.format.proofs.CheckLaws.{bytes-fromBytes, section-count, section-gives}
 use Rattle.format.proofs.ImageReads.{number-at}
 use Rattle.format.proofs.FaultLaws.{then-in, fault-in, then-yes, then-no, fault-yes, fault-no}
 
@@ -31,9 +33,9 @@ one-of-five true true true false e x h = refl
 one-of-five true true true true false x h = refl
 one-of-five true true true true true x h = absurd (h (refl, refl, refl, refl, refl))
 
-contents-order1 : (L : ℕ) (bs : List ℕ) → ContentsOrder1 L bs
+contents-1-gives : (L : ℕ) (bs : List ℕ) → Contents1Gives L bs
 unfolding contentsFault1
-contents-order1 L bs =
+contents-1-gives L bs =
     let t : List ℕ = untrytes L bs in
     let pass : (b : Bool) (x : ℕ) → b ≡ true → (fault 23 b then x) ≡ x = λ b x e. then-yes (fault 23 b) x (fault-yes 23 b e) in
     record {
@@ -44,14 +46,28 @@ contents-order1 L bs =
           ∙ pass (grown t) _ (r .is-grown) ∙ fault-no 22 (limits t) h;
     }
 
-pub check-order : (b : List ℕ) → CheckOrder b
-unfolding checkImage
-check-order b = record {
-  contents-1 = contents-order1 (countOf b) (contentsOf (size1 b) b);
-  first = then-no (fault1 b) _;
-  second = λ e h. then-yes (fault1 b) _ e ∙ then-no (fault2 (tritsOf b) (after1 b)) _ h;
-  others = λ e f. then-yes (fault1 b) _ e ∙ then-yes (fault2 (tritsOf b) (after1 b)) _ f;
-}
+pub checker-gives : (b : List ℕ) → CheckerGives b
+unfolding checkImage fault1 fault2 givenFault checkGiven
+checker-gives b =
+    let L : ℕ = countOf b in
+    let k : Bool = leb L 125536 in
+    let eq : (x y : ℕ) (c : ℕ) → (x ≡ y → ⊥) → fault c (eqb x y) ≡ c = λ x y c h. fault-no c (eqb x y) (λ e. h (eqb-true x y e)) in
+    record {
+      first = then-no (fault1 b) _;
+      second = λ e h. then-yes (fault1 b) _ e ∙ then-no (fault2 (tritsOf b) (after1 b)) _ h;
+      others = λ e f. then-yes (fault1 b) _ e ∙ then-yes (fault2 (tritsOf b) (after1 b)) _ f;
+      too-large = λ h l.
+          let f : (fault 22 k then fault 23 (leb 1 L)) ≡ 22 = ap (λ (t : Bool). fault 22 t then fault 23 (leb 1 L)) (lt-leb L 125536 l) in
+          section-count (fault 22 k then fault 23 (leb 1 L)) (size1 b) (contentsFault1 L (contentsOf (size1 b) b)) b h (omega arith) ∙ f;
+      section-1 = λ l.
+          let f : (fault 22 k then fault 23 (leb 1 L)) ≡ fault 23 (leb 1 L) = then-yes (fault 22 k) _ (fault-yes 22 k (le-leb L 125536 l)) in
+          section-gives _ (size1 b) _ b (1 ≤ L) 23 (lit< tt) (λ r. f ∙ fault-yes 23 (leb 1 L) (le-leb 1 L r)) (λ r. f ∙ fault-no 23 (leb 1 L) (λ e. r (leb-true 1 L e)));
+      contents-1 = contents-1-gives L (contentsOf (size1 b) b);
+      section-2 = λ trits. section-gives _ (size2 trits) _ b (L ≡ countIn 2 trits) 24 (lit< tt) (λ r. fault-yes 24 _ (eq-eqb L (countIn 2 trits) r)) (eq L (countIn 2 trits) 24);
+      sections-3-9 = λ s. section-gives _ (length (s .contents)) _ b (L ≡ s .entries) 25 (lit< tt) (λ r. fault-yes 25 _ (eq-eqb L (s .entries) r)) (eq L (s .entries) 25);
+      one-by-one = λ s ss. refl;
+      left-over = eq (length b) 0 26;
+    }
 
 -- ---- contents, entry by entry
 

@@ -12,7 +12,7 @@ use native.Mathlib.Decide.{decLe}
 use Rattle.format.specs.Lists.{bit, countIn}
 use Rattle.format.specs.Trits.{rank, places, Selected}
 use Rattle.format.specs.Image.{untilZero, nodeCount, rootCount, edgeCount}
-use Rattle.format.specs.Proper.{rootsFirst, Proper}
+use Rattle.format.specs.Proper.{rootsFirst, ProperTrits}
 use Rattle.format.specs.Edges.{operandEdges, useEdges}
 use Rattle.format.proofs.Laws.{rank-three, getD-other}
 use Rattle.format.proofs.Select.{place-rank}
@@ -39,7 +39,7 @@ upto-first t (zero ∷ xs) p pt l e = zero-le
 upto-first t (suc x ∷ xs) zero pt l e = absurd (omega arith)
 upto-first t (suc x ∷ xs) (suc p) pt l e = omega (arith, upto-first t xs p pt (le-of-suc-le-suc l) e)
 
-pub first-zero : (trits H : List ℕ) → Proper trits H → nth 0 trits 1 ≡ rootCount trits
+pub first-zero : (trits H : List ℕ) → ProperTrits trits H → nth 0 trits 1 ≡ rootCount trits
 unfolding rootCount rootsFirst
 first-zero trits H p =
     let z : ℕ = nth 0 trits 1 in
@@ -55,7 +55,7 @@ first-zero trits H p =
       eqb-true (countIn 2 (untilZero trits)) 0 (p .roots-first),
     )
 
-pub final-zero : (trits H : List ℕ) → Proper trits H → nth 0 trits (suc (nodeCount trits)) ≡ length trits - 1
+pub final-zero : (trits H : List ℕ) → ProperTrits trits H → nth 0 trits (suc (nodeCount trits)) ≡ length trits - 1
 unfolding nth rank
 final-zero trits H p =
     let L : ℕ = length trits in
@@ -80,11 +80,11 @@ unfolding rootCount nodeCount
 roots-nodes trits = front-le 1 trits
 
 -- m = n + k - c
-pub edges-shadows : (trits H : List ℕ) → Proper trits H → edgeCount trits + rootCount trits ≡ nodeCount trits + length H
+pub edges-shadows : (trits H : List ℕ) → ProperTrits trits H → edgeCount trits + rootCount trits ≡ nodeCount trits + length H
 unfolding edgeCount
 edges-shadows trits H p = omega (arith, length-trits trits H p, roots-nodes trits)
 
-sum-operands : (trits H : List ℕ) → Proper trits H → (j : ℕ) → j ≤ nodeCount trits
+sum-operands : (trits H : List ℕ) → ProperTrits trits H → (j : ℕ) → j ≤ nodeCount trits
     → total (λ i. length (operandEdges trits H i)) j + nth 0 trits 1 + j ≡ nth 0 trits (suc j)
 sum-operands trits H p zero l = ap (λ (k : ℕ). k + 0) (zero-add (nth 0 trits 1)) ∙ add-zero (nth 0 trits 1)
 sum-operands trits H p (suc j) l =
@@ -97,7 +97,7 @@ sum-operands trits H p (suc j) l =
       lt-of-rank 0 trits (nth 0 trits (suc j)) (nth 0 trits (suc (suc j))) (omega (arith, s .ranked, s′ .ranked)),
     )
 
-pub operands-sum : (trits H : List ℕ) → Proper trits H → total (λ i. length (operandEdges trits H i)) (nodeCount trits) ≡ edgeCount trits
+pub operands-sum : (trits H : List ℕ) → ProperTrits trits H → total (λ i. length (operandEdges trits H i)) (nodeCount trits) ≡ edgeCount trits
 unfolding edgeCount
 operands-sum trits H p =
     omega (arith, sum-operands trits H p (nodeCount trits) (le-refl (nodeCount trits)), first-zero trits H p, final-zero trits H p, p .length-low)
@@ -110,7 +110,7 @@ total-above c (suc n) = go (decLe (suc c) (suc n)) (total-above c n)
     go (yes h) e = omega (arith, ap bit (lt-ltb c (suc n) h))
     go (no h) e = omega (arith, ap bit (le-ltb c (suc n) (omega arith)))
 
-pub uses-sum : (trits H : List ℕ) → Proper trits H → total (λ i. length (useEdges trits H i)) (nodeCount trits) ≡ edgeCount trits
+pub uses-sum : (trits H : List ℕ) → ProperTrits trits H → total (λ i. length (useEdges trits H i)) (nodeCount trits) ≡ edgeCount trits
 uses-sum trits H p =
     total-cong (λ i. length (useEdges trits H i)) (λ i. bit (ltb (rootCount trits) i) + countIn i H) (nodeCount trits) (λ i a b. use-count trits H p i a b)
     ∙ total-add (λ i. bit (ltb (rootCount trits) i)) (λ i. countIn i H) (nodeCount trits)

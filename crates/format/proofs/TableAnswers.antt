@@ -7,7 +7,7 @@ use mathlib.Core.Option.{some}
 use mathlib.Core.List.{List, map}
 use lib.Dec.{ltb, eqb}
 use lib.ListN.{length, getD, replicate}
-use Rattle.format.specs.Lists.{oneTo, sumOf, join, keep, countIn, nodeAt}
+use Rattle.format.specs.Lists.{oneTo, sumOf, join, countIn, nodeAt}
 use Rattle.format.specs.Table.{Graph, nodes, edges, operandsOf}
 use Rattle.format.specs.Level.{walk, levelOrder}
 use Rattle.format.specs.Trits.{select}
@@ -17,7 +17,7 @@ use Rattle.format.specs.Edges.{operandOf, userOf, operandEdges, useEdges
 use Rattle.format.specs.Question.{Reply, plain, answer, says, Beyond}
 use Rattle.format.specs.Renumbering.{operandsAt, usersAt}
 use Rattle.format.proofs.Order.{counts}
-use Rattle.format.proofs.Neighbours.{operands-scanned, uses-by-user, users-of}
+use Rattle.format.proofs.Neighbours.{operands-scanned, users-of}
 use Rattle.format.proofs.Replies.{operands-reply, operand-reply, operand-33, uses-reply, user-reply, user-33}
 use Rattle.format.proofs.Accepting.{packable, proper-table, root-count, edge-count}
 use Rattle.format.proofs.Outcomes.{kind-3, kind-5, sum-same, sum-total}
@@ -25,7 +25,8 @@ use Rattle.format.proofs.Trip.{unpacked, renumbered-row}
 use Rattle.format.proofs.Sizes.{total}
 use Rattle.format.proofs.Sums.{operands-sum, uses-sum}
 use Rattle.format.proofs.Places.{map-same, all-imp, all-run}
-use Rattle.format.proofs.ProperLaws.{nth-select}
+use Rattle.format.proofs.ProperLaws.{nth-selected, zeros-ones, nth}
+use Rattle.format.proofs.Select.{select-at}
 
 module _ (table : List ℕ) (g : Graph) (a : Accepted table g) where
   abbrev trits : List ℕ
@@ -43,11 +44,6 @@ module _ (table : List ℕ) (g : Graph) (a : Accepted table g) where
       operands-scanned i trits H (proper-table table g a) h
       ∙ ap (λ (x : Graph). operandsOf x i) (unpacked g (packable table g a)) ∙ renumbered-row g (levelOrder g) i
 
-  pub uses-listed : (v : ℕ) → useEdges trits H v ≡ join (map (λ (i : ℕ). keep (λ e. eqb (e .operand) v) (operandEdges trits H i)) (oneTo (nodes g)))
-  uses-listed v =
-      uses-by-user trits H (proper-table table g a) v
-      ∙ ap (λ (n : ℕ). join (map (λ (i : ℕ). keep (λ e. eqb (e .operand) v) (operandEdges trits H i)) (oneTo n))) node-count
-
   pub users-listed : (v : ℕ) → map userOf (useEdges trits H v) ≡ usersAt g v
   users-listed v =
       let times : List ℕ → ℕ → List ℕ = λ row i. replicate (countIn v row) i in
@@ -64,11 +60,16 @@ module _ (table : List ℕ) (g : Graph) (a : Accepted table g) where
     pub operand-counts : answer trits H 3 i 0 ≡ says 0 (length (operandsAt g i)) 0
     operand-counts = operands-reply trits H (proper-table table g a) i low inside (operandsAt g i) (operands-listed i low)
 
-    pub operand-answers : (b p : ℕ) → 1 ≤ b → b ≤ length (operandsAt g i) → select 0 trits i ≡ some p
-        → answer trits H 4 i b ≡ says 0 (nodeAt (operandsAt g i) b) (getD trits (p + b) 0)
-    operand-answers b p h k s =
-        operand-reply trits H (proper-table table g a) i low inside (operandsAt g i) (operands-listed i low) b h k
-        ∙ ap (λ (z : ℕ). says 0 (nodeAt (operandsAt g i) b) (getD trits (z + b) 0)) (nth-select 0 trits i p s)
+    -- the operands stand after the i-th zero
+    pub operand-answers : (p : ℕ) × (select 0 trits i ≡ some p)
+        × ((b : ℕ) → 1 ≤ b → b ≤ length (operandsAt g i) → answer trits H 4 i b ≡ says 0 (nodeAt (operandsAt g i) b) (getD trits (p + b) 0))
+    operand-answers =
+        let pr = proper-table table g a in
+        let s = nth-selected 0 trits i low (omega (arith, zeros-ones trits (pr .is-balanced), inside)) in (
+          nth 0 trits i,
+          ap (select 0 trits) (sym (s .ranked)) ∙ select-at 0 trits (nth 0 trits i) (s .inside) (s .holds),
+          operand-reply trits H pr i low inside (operandsAt g i) (operands-listed i low),
+        )
 
     pub operand-past : (b : ℕ) → Beyond (length (operandsAt g i)) b → answer trits H 4 i b ≡ says 33 0 0
     operand-past = operand-33 trits H (proper-table table g a) i low inside (operandsAt g i) (operands-listed i low)

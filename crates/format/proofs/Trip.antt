@@ -9,7 +9,7 @@ use mathlib.Core.List.{List, [], _∷_, _++_, map, map-map, append-nil, map-appe
 use lib.ListN.{length, getD, drop, replicate, length-map, List·getD-map}
 use Rattle.format.specs.Lists.{All, numberIn, nodeAt}
 use Rattle.format.specs.Table.{Graph, nodes, Node, operandsOf, WellFormed}
-use Rattle.format.specs.Level.{Walk, enter, see, seeAll, close, visit, start, taken, turns, walk, levelOrder}
+use Rattle.format.specs.Level.{Walk, enter, see, seeAll, close, visit, superRoot, taken, turns, walk, levelOrder}
 use Rattle.format.specs.Renumbering.{renumbered, Renumbering}
 use Rattle.format.proofs.Cutting.{inFront, cut, asGraph, scanned}
 use Rattle.format.proofs.Places.{all-imp, all-map, all-drop, all-nodeAt, map-id, drop-map, number-map, nodup-map, getD-number, node-number, number-node, number-le}
@@ -90,7 +90,7 @@ module _ (g h : Graph) (fg : WellFormed g) (f : ℕ → ℕ) (inj : (u v : ℕ) 
       ap close (ap (λ (vs : List ℕ). seeAll vs (mapped f w)) (sym (os v (b .0))) ∙ seeAll-map (nodes g) f inj (operandsOf g v) w (operands-inside g fg v) a)
 
   pub turns-map : (i : ℕ) → turns h i ≡ mapped f (turns g i)
-  unfolding turns start
+  unfolding turns superRoot
   turns-map zero = λ i. record {
     queue = sym rs i;
     trits = replicate ((ap length (sym rs) ∙ length-map (g .roots) f) i) 1 ++ 0 ∷ [];

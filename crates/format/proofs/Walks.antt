@@ -11,7 +11,7 @@ use lib.Dec.{T, leb, leb→le}
 use borrow.Author.Tests.{ne-eqb}
 use Rattle.format.specs.Lists.{bit, All, countIn, numberIn, Nodup}
 use Rattle.format.specs.Table.{Graph, nodes, Node, operandsOf, isNode, WellFormed}
-use Rattle.format.specs.Level.{Walk, enter, see, seeAll, close, visit, start, taken, turns}
+use Rattle.format.specs.Level.{Walk, enter, see, seeAll, close, visit, superRoot, taken, turns}
 use Rattle.format.proofs.Cutting.{operandNumbers}
 use Rattle.format.proofs.Laws.{count-append}
 use Rattle.format.proofs.Places.{all-append, all-getD, nodup-snoc, nodup-mid, number-in, number-new, take-end, take-next}
@@ -167,11 +167,11 @@ seeAll-new (v ∷ vs) w d =
     ∙ seeAll-new vs (enter 0 v w) (rw append-snoc d)
     ∙ (λ i. record { queue = append-snoc (w .queue) v vs i; trits = append-snoc (w .trits) 1 (replicate (length vs) 1) i; shadows = w .shadows })
 
-pub start-visit : (g : Graph) → Nodup (g .roots) → start g ≡ close (seeAll (g .roots) empty)
-unfolding start
+pub start-visit : (g : Graph) → Nodup (g .roots) → superRoot g ≡ close (seeAll (g .roots) empty)
+unfolding superRoot
 start-visit g d = ap close (sym (seeAll-new (g .roots) empty d))
 
-pub inv-start : (g : Graph) → WellFormed g → Inv (nodes g) (start g) (g .roots ++ 0 ∷ [])
+pub inv-start : (g : Graph) → WellFormed g → Inv (nodes g) (superRoot g) (g .roots ++ 0 ∷ [])
 unfolding operandNumbers
 inv-start g f =
     rw (start-visit g (f .roots-nodup))
@@ -203,7 +203,7 @@ taken-grows g q (v ∷ l) w a =
     (a .0 ++ b .0, b .1 ∙ ap (λ (x : List ℕ). x ++ b .0) (a .1) ∙ append-assoc q (a .0) (b .0))
 
 pub turns-grows : (g : Graph) (i : ℕ) → Grows (g .roots) (turns g i)
-unfolding turns start
+unfolding turns superRoot
 turns-grows g zero = ([], sym (append-nil (g .roots)))
 turns-grows g (suc i) = taken-grows g (g .roots) (drop i (turns g i .queue)) (turns g i) (turns-grows g i)
 

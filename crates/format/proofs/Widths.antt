@@ -8,16 +8,16 @@ use lib.Dec.{lit<}
 use lib.ListN.{length, getD, take, drop}
 use Rattle.format.specs.Lists.{All, Below, run, sumOf, horner}
 use Rattle.format.specs.Trits.{rank, trytes, tryteCount}
-use Rattle.format.specs.Image.{leBytes, bytes, nodeCount, markWords, starts, grouped, pairs, lastMultiple, markSamples, Section, section1, section2, section3, section4, section5, section6, section7, section8, section9, given, written, image, ReadBack}
-use Rattle.format.specs.Proper.{Proper}
+use Rattle.format.specs.Image.{leBytes, bytes, nodeCount, markWords, starts, grouped, pairs, lastMultiple, markSamples, Section, section1, section2, section3, section4, section5, section6, section7, section8, section9, given, written, image, ReadBack, Counted}
+use Rattle.format.specs.Proper.{ProperTrits}
 use Rattle.format.proofs.Digits.{below-digits, below-spread, gather-at, below-block, length-block, horner-lt}
 use Rattle.format.proofs.Select.{rank-samples, rank-tryte}
-use Rattle.format.proofs.Sizes.{length-trytes}
-use Rattle.format.proofs.CheckLaws.{fromBytes-bytes, shadows-small, limits-nodes}
+use Rattle.format.proofs.Sizes.{length-trytes, length-bytes, length-markWords, length-starts, length-grouped, length-pairs, length-markSamples}
+use Rattle.format.proofs.CheckLaws.{fromBytes-bytes, shadows-small, limits-nodes, shadow-nodes}
 use Rattle.format.proofs.ImageReads.{each-append, pairs-at, fits3, fits4, fits5, fits6, fits7, fits8, fits9}
 use Rattle.format.proofs.Laws.{_and_}
 
-module _ (trits H : List ℕ) (p : Proper trits H) where
+module _ (trits H : List ℕ) (p : ProperTrits trits H) where
   pub sections-back : ReadBack trits H
   unfolding section2 section3 section4 section5 section6 section7 section8 section9
   sections-back = record {
@@ -29,6 +29,22 @@ module _ (trits H : List ℕ) (p : Proper trits H) where
     back7 = fromBytes-bytes 2 (pairs 275 (lastMultiple 65725) trits) (lit< tt) (fits7 trits);
     back8 = fromBytes-bytes 1 (pairs 25 (lastMultiple 275) trits) (lit< tt) (fits8 trits);
     back9 = fromBytes-bytes 2 (markSamples trits H) (lit< tt) (fits9 trits H (limits-nodes trits (p .in-limits)));
+  }
+
+  -- each section's contents are as long as its count says
+  pub sections-counted : Counted trits H
+  unfolding section1 section2 section3 section4 section5 section6 section7 section8 section9
+  sections-counted = record {
+    count-3 = refl;
+    size-1 = length-trytes trits;
+    size-2 = length-bytes 2 H;
+    size-3 = length-bytes 8 (markWords trits H) ∙ ap (λ (k : ℕ). 8 * k) (length-markWords trits H);
+    size-4 = length-bytes 4 (starts trits H) ∙ ap (λ (k : ℕ). 4 * k) (length-starts trits H);
+    size-5 = length-bytes 4 (grouped trits H (nodeCount trits)) ∙ ap (λ (k : ℕ). 4 * k) (length-grouped trits H (p .paired) (shadow-nodes trits H (p .paired) (p .seen)));
+    size-6 = omega (arith, length-bytes 4 (pairs 65725 (λ p. 0) trits), length-pairs 65725 (λ p. 0) trits);
+    size-7 = omega (arith, length-bytes 2 (pairs 275 (lastMultiple 65725) trits), length-pairs 275 (lastMultiple 65725) trits);
+    size-8 = omega (arith, length-bytes 1 (pairs 25 (lastMultiple 275) trits), length-pairs 25 (lastMultiple 275) trits);
+    size-9 = length-bytes 2 (markSamples trits H) ∙ ap (λ (k : ℕ). 2 * k) (length-markSamples trits H);
   }
 
   -- ---- bytes

@@ -1,14 +1,14 @@
 -- Document 01, "Batches of questions": the outcome of a batch. Assumes nothing.
-use Prim.Native.Nat.{ℕ, zero, suc, _+_, _-_, _*_, _/_, _%_, _≤_}
+use Prim.Native.Nat.{ℕ, zero, suc, _+_, _-_, _*_, _/_, _%_, _≤_, _<_}
 use mathlib.Core.Path.{_≡_}
 use mathlib.Core.Bool.{Bool, _&&_}
 use mathlib.Core.List.{List, [], _∷_, map}
 use lib.Dec.{eqb, leb}
-use lib.ListN.{length, getD, drop}
+use lib.ListN.{length, getD, take, drop}
 use Rattle.format.specs.Lists.{each, join, over, countIn}
 use Rattle.format.specs.Faults.{fault, _then_}
 use Rattle.format.specs.Proper.{checkImage, tritsOf, shadowsOf}
-use Rattle.format.specs.Question.{Reply, answer}
+use Rattle.format.specs.Question.{Reply, answer, says}
 use Rattle.format.specs.Answers.{askedNumber}
 use Rattle.format.specs.declared.Asked.{Asked}
 use Rattle.format.specs.declared.Tally.{Tally}
@@ -59,9 +59,12 @@ batchRan rs buffer t = record {
 }
 
 -- a refused batch leaves the answers and the tally
+abbrev pub batchRefused : ℕ → List ℕ → Tally → BatchOutcome
+batchRefused c buffer t = record { code = c; words = buffer; tally = t }
+
 abbrev pub batchSettled : ℕ → List ℕ → Tally → BatchOutcome → BatchOutcome
 batchSettled zero buffer t o = o
-batchSettled (suc c) buffer t o = record { code = suc c; words = buffer; tally = t }
+batchSettled (suc c) buffer t o = batchRefused (suc c) buffer t
 
 -- "Order: 41, 42, 43, then 21 to 26, then the questions one by one."
 unfoldable pub batchOutcome : List ℕ → List ℕ → List ℕ → Tally → BatchOutcome
@@ -94,3 +97,15 @@ pub record Ran (questions buffer : List ℕ) (t : Tally) (o : BatchOutcome) : Ty
   pub answered : o .tally .answered ≡ t .answered + countIn 0 (each (length questions / 3) (λ j. getD (o .words) (3 * j) 0))
   pub refused : o .tally .answered + o .tally .refused ≡ t .answered + t .refused + length questions / 3
   pub tally-fits : (o .tally .asked ≤ 4294967295) × (o .tally .answered ≤ 4294967295) × (o .tally .refused ≤ 4294967295)
+
+-- "Order: 41, 42, 43, then 21 to 26, then the questions one by one", each out of its own three words
+pub record BatchGives (image questions buffer : List ℕ) (t : Tally) (o : BatchOutcome) : Type 0 where
+  pub not-threes : (length questions % 3 ≡ 0 → ⊥) → o ≡ batchRefused 41 buffer t
+  pub buffer-short : length questions % 3 ≡ 0 → length buffer < length questions → o ≡ batchRefused 42 buffer t
+  pub tally-full : length questions % 3 ≡ 0 → length questions ≤ length buffer → (TallyRoom t (length questions / 3) → ⊥) → o ≡ batchRefused 43 buffer t
+  pub improper : length questions % 3 ≡ 0 → length questions ≤ length buffer → TallyRoom t (length questions / 3) → (c : ℕ) → checkImage image ≡ suc c
+      → o ≡ batchRefused (suc c) buffer t
+  pub ran : Runs image questions buffer t → Ran questions buffer t o
+  pub answered : Runs image questions buffer t → (j : ℕ) → 3 * j + 2 < length questions → (c v s : ℕ)
+      → answer (tritsOf image) (shadowsOf image) (getD questions (3 * j) 0) (getD questions (3 * j + 1) 0) (getD questions (3 * j + 2) 0) ≡ says c v s
+      → take 3 (drop (3 * j) (o .words)) ≡ c ∷ v ∷ s ∷ []

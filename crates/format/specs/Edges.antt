@@ -41,6 +41,6 @@ edgeList trits H = map (edgeAt trits H) (keep (isEdge trits) (run 0 (length trit
 unfoldable pub operandEdges : List ℕ → List ℕ → ℕ → List Edge
 operandEdges trits H i = keep (λ e. eqb (e .user) i) (edgeList trits H)
 
--- "Uses are edges in order of their place in the trits, so the real one, if any, comes first. The super-root is no user."
+-- "Uses are edges in order of their place in the trits, so the real one, if any, comes first." The super-root is no user.
 unfoldable pub useEdges : List ℕ → List ℕ → ℕ → List Edge
 useEdges trits H i = keep (λ e. eqb (e .operand) i) (edgeList trits H)

@@ -30,7 +30,7 @@ untilZero [] = []
 untilZero (zero ∷ xs) = []
 untilZero (suc t ∷ xs) = suc t ∷ untilZero xs
 
--- n, c, m: every node but the super-root was written once as a 1; the super-root's ones are the roots
+-- n, c, m: every node was written once as a 1; those before the first zero are the roots
 unfoldable pub nodeCount : List ℕ → ℕ
 nodeCount trits = countIn 1 trits
 
@@ -150,3 +150,16 @@ pub record ReadBack (trits H : List ℕ) : Type 0 where
   pub back7 : fromBytes 2 (section7 trits H .contents) ≡ pairs 275 (lastMultiple 65725) trits
   pub back8 : fromBytes 1 (section8 trits H .contents) ≡ pairs 25 (lastMultiple 275) trits
   pub back9 : fromBytes 2 (section9 trits H .contents) ≡ markSamples trits H
+
+-- the counts of sections 1 to 9, and each section's contents as long as its count says
+pub record Counted (trits H : List ℕ) : Type 0 where
+  pub count-3 : section3 trits H .entries ≡ nodeCount trits
+  pub size-1 : length (section1 trits H .contents) ≡ up (section1 trits H .entries) 5
+  pub size-2 : length (section2 trits H .contents) ≡ 2 * section2 trits H .entries
+  pub size-3 : length (section3 trits H .contents) ≡ 8 * up (section3 trits H .entries) 64
+  pub size-4 : length (section4 trits H .contents) ≡ 4 * section4 trits H .entries
+  pub size-5 : length (section5 trits H .contents) ≡ 4 * section5 trits H .entries
+  pub size-6 : length (section6 trits H .contents) ≡ 8 * section6 trits H .entries
+  pub size-7 : length (section7 trits H .contents) ≡ 4 * section7 trits H .entries
+  pub size-8 : length (section8 trits H .contents) ≡ 2 * section8 trits H .entries
+  pub size-9 : length (section9 trits H .contents) ≡ 2 * section9 trits H .entries

@@ -36,8 +36,8 @@ unfoldable pub visit : Graph → ℕ → Walk → Walk
 visit g v w = close (seeAll (operandsOf g v) w)
 
 -- the super-root: the roots enter the queue in order, c ones, then 0
-unfoldable pub start : Graph → Walk
-start g = record { queue = g .roots; trits = replicate (length (g .roots)) 1 ++ 0 ∷ []; shadows = [] }
+unfoldable pub superRoot : Graph → Walk
+superRoot g = record { queue = g .roots; trits = replicate (length (g .roots)) 1 ++ 0 ∷ []; shadows = [] }
 
 -- the node taken from the queue, if one is left
 abbrev pub taken : Graph → List ℕ → Walk → Walk
@@ -49,7 +49,7 @@ turn g i w = taken g (drop i (w .queue)) w
 
 -- the walk after i nodes have been taken
 unfoldable pub turns : Graph → ℕ → Walk
-turns g zero = start g
+turns g zero = superRoot g
 turns g (suc i) = turn g i (turns g i)
 
 -- a node is taken at most once, so n turns are enough

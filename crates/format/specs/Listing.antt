@@ -1,15 +1,19 @@
 -- Document 01, "The listing program": its text, as bytes. Assumes nothing.
-use Prim.Native.Nat.{ℕ, zero, suc, _+_, _/_, _%_}
+use Prim.Native.Nat.{ℕ, zero, suc, _+_, _-_, _*_, _/_, _%_, _≤_, _<_}
+use mathlib.Core.Path.{_≡_}
+use mathlib.Core.Logic.{_⊎_}
 use Prim.Native.Char.{code}
 use Prim.Native.String.{String, len, charAt}
 use mathlib.Core.Bool.{true, false, _&&_, cond}
 use mathlib.Core.List.{List, [], _∷_, _++_, map}
 use lib.Dec.{ltb, leb, eqb}
-use lib.ListN.{length}
-use Rattle.format.specs.Lists.{oneTo, each, join, over}
-use Rattle.format.specs.Table.{Read, faulty, graph, readTable}
+use lib.ListN.{length, getD}
+use Rattle.format.specs.Lists.{oneTo, each, join, over, All}
+use Rattle.format.specs.Table.{Graph, Read, faulty, graph, readTable}
 use Rattle.format.specs.Level.{walk, reached}
 use Rattle.format.specs.Image.{nodeCount, rootCount, edgeCount, image, fromBytes}
+use Rattle.format.specs.Packing.{Accepted, packOutcome}
+use Rattle.format.specs.Answers.{stops}
 use Rattle.format.specs.Edges.{Edge, operandEdges, useEdges}
 
 -- the bytes of quoted text, each character by its code
@@ -74,7 +78,7 @@ tableText (graph g) = let w = walk g in cond (reached g) (listing (w .trits) (w 
 unfoldable pub listingText : List ℕ → List ℕ
 listingText input = cond (eqb (length input % 2) 0 && leb (length input) 8000) (tableText (readTable (fromBytes 2 input))) (refusal 61)
 
--- ---- the outcome: the text's length, and the text over the front of the buffer that it is written to
+-- ---- the outcome: the text's length, and the text over the front of the buffer that it is written to, which has at least 100,000 bytes (no text is longer)
 
 pub record ListingOutcome : Type 0 where
   pub size : ℕ
@@ -86,3 +90,25 @@ listingOutcome input buffer = record { size = length (listingText input); buffer
 -- what a function that returns `size` leaves, for its contract
 abbrev pub listingLeaves : ℕ → List ℕ → ListingOutcome
 listingLeaves size buffer = record { size = size; buffer = buffer }
+
+-- ---- what statements say of it
+
+-- decimal digits read from the left
+abbrev pub readDecimal : ℕ → List ℕ → ℕ
+readDecimal acc [] = acc
+readDecimal acc (d ∷ ds) = readDecimal (10 * acc + (d - 48)) ds
+
+-- a number in decimal: it reads back, in digits, with no 0 in front but of 0 itself
+pub record Decimal (x : ℕ) (bs : List ℕ) : Type 0 where
+  pub reads : readDecimal 0 bs ≡ x
+  pub digits : All (λ b. (48 ≤ b) × (b ≤ 57)) bs
+  pub leads : 0 < x → 48 < getD bs 0 0
+  pub zero : x ≡ 0 → bs ≡ 48 ∷ []
+
+-- 61 first; then what packing refuses, 7 and 9 apart, which depend on buffers that are lent; else the listing; at most 100,000 bytes
+pub record ListingGives (input : List ℕ) : Type 0 where
+  pub input-wrong : (length input % 2 ≡ 0 → ⊥) ⊎ (8000 < length input) → listingText input ≡ refusal 61
+  pub table-refused : length input % 2 ≡ 0 → length input ≤ 8000 → (order work buffer : List ℕ) (f : ℕ) → 0 < f → (f ≡ 7 → ⊥) → (f ≡ 9 → ⊥)
+      → packOutcome (fromBytes 2 input) order work buffer .returned ≡ stops f → listingText input ≡ refusal f
+  pub accepted : length input % 2 ≡ 0 → length input ≤ 8000 → (g : Graph) → Accepted (fromBytes 2 input) g → listingText input ≡ listing (walk g .trits) (walk g .shadows)
+  pub few : length (listingText input) ≤ 100000

@@ -1,5 +1,5 @@
 -- The few tools on lists that the definitions of this folder are written with. Places in a list of trits count from 0. Assumes nothing.
-use Prim.Native.Nat.{ℕ, zero, suc, _+_, _-_, _*_, _/_, _%_, _<_}
+use Prim.Native.Nat.{ℕ, zero, suc, _+_, _-_, _*_, _/_, _%_, _≤_, _<_}
 use mathlib.Core.Path.{_≡_}
 use mathlib.Core.Bool.{Bool, true, false, _&&_, cond}
 use mathlib.Core.Option.{Option, none}
@@ -65,7 +65,7 @@ abbrev pub numbered {ℓ} : {A : Type ℓ} → List A → ℕ → Option A
 numbered xs zero = none
 numbered xs (suc j) = getElem? xs j
 
--- the node of a level number: number k of the list, counted from 1
+-- node number k of a list of nodes, counted from 1; 0 where there is none
 abbrev pub nodeAt : List ℕ → ℕ → ℕ
 nodeAt q zero = 0
 nodeAt q (suc k) = getD q k 0
@@ -121,3 +121,8 @@ Nodup (x ∷ xs) = (numberIn x xs ≡ 0) × Nodup xs
 -- every number of the list is below b
 abbrev pub Below : ℕ → List ℕ → Type 0
 Below b ds = (i : ℕ) → i < length ds → getD ds i 0 < b
+
+-- every element is at least a, and each is above the one before
+abbrev pub RisingFrom : ℕ → List ℕ → Type 0
+RisingFrom a [] = Unit {0}
+RisingFrom a (x ∷ xs) = (a ≤ x) × RisingFrom (suc x) xs

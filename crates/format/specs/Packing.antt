@@ -45,7 +45,7 @@ packFault g order work buffer =
     then fault 8 (reached g)
     then fault 9 (leb (length (imageOf g)) (length buffer))
 
--- "After 1 to 7 all memory is as before; after 8, 9 or success the first 3n words of work are zero and the rest as before. Success returns the
+-- "After 1 to 7 all memory is as before; after 8, 9 or success the first 3n words of work are zero and the rest as before"; "Success returns the
 -- image's length and writes that many bytes and n order entries; nothing else changes."
 abbrev pub packSettled : ℕ → Graph → List ℕ → List ℕ → List ℕ → PackOutcome
 packSettled zero g order work buffer =

@@ -121,7 +121,7 @@ pub record Whole (b : List ℕ) : Type 0 where
 
 -- ---- what trits and shadows have to keep: the rules of sections 1 and 2
 
-pub record Proper (trits H : List ℕ) : Type 0 where
+pub record ProperTrits (trits H : List ℕ) : Type 0 where
   pub threes : Below 3 trits
   pub length-low : 1 ≤ length trits
   pub length-high : length trits ≤ 125536
@@ -136,14 +136,7 @@ pub record Proper (trits H : List ℕ) : Type 0 where
 abbrev pub ImageCode : ℕ → Type 0
 ImageCode x = (x ≡ 0) ⊎ ((21 ≤ x) × (x ≤ 26))
 
--- the order of the faults of one section at the front of b
-pub record SectionOrder (countFault size contentsFault : ℕ) (b : List ℕ) : Type 0 where
-  pub count-missing : length b < 4 → sectionFault countFault size contentsFault b ≡ 21
-  pub count-wrong : 4 ≤ length b → 0 < countFault → sectionFault countFault size contentsFault b ≡ countFault
-  pub contents-missing : 4 ≤ length b → countFault ≡ 0 → length (drop 4 b) < size → sectionFault countFault size contentsFault b ≡ 21
-  pub contents-wrong : 4 ≤ length b → countFault ≡ 0 → size ≤ length (drop 4 b) → sectionFault countFault size contentsFault b ≡ contentsFault
-
--- the rules of section 1's contents, and the order of its faults: n and m are held to 22 after them
+-- the rules of section 1's contents
 pub record OwnRules (L : ℕ) (bs : List ℕ) : Type 0 where
   pub is-low : bytesLow bs ≡ true
   pub is-padded : padded L bs ≡ true
@@ -151,13 +144,30 @@ pub record OwnRules (L : ℕ) (bs : List ℕ) : Type 0 where
   pub is-balanced : balanced (untrytes L bs) ≡ true
   pub is-grown : grown (untrytes L bs) ≡ true
 
-pub record ContentsOrder1 (L : ℕ) (bs : List ℕ) : Type 0 where
+-- "n and m are held to 22 after section 1's own rules"
+pub record Contents1Gives (L : ℕ) (bs : List ℕ) : Type 0 where
   pub rule-broken : (OwnRules L bs → ⊥) → contentsFault1 L bs ≡ 23
   pub limit-passed : OwnRules L bs → (limits (untrytes L bs) ≡ true → ⊥) → contentsFault1 L bs ≡ 22
 
--- the order of the sections
-pub record CheckOrder (b : List ℕ) : Type 0 where
-  pub contents-1 : ContentsOrder1 (countOf b) (contentsOf (size1 b) b)
+-- what one section at the front of b gives: its count is missing, wrong, or right; its contents are missing, or there
+pub record SectionGives (given : ℕ) (b : List ℕ) (RightCount : Type 0) (wrongCount size contents : ℕ) : Type 0 where
+  pub count-missing : length b < 4 → given ≡ 21
+  pub count-wrong : 4 ≤ length b → (RightCount → ⊥) → given ≡ wrongCount
+  pub contents-missing : 4 ≤ length b → RightCount → length (drop 4 b) < size → given ≡ 21
+  pub contents-there : 4 ≤ length b → RightCount → size ≤ length (drop 4 b) → given ≡ contents
+
+-- what the checker gives: the first fault of the sections, else 26 where bytes are left
+pub record CheckerGives (b : List ℕ) : Type 0 where
   pub first : 0 < fault1 b → checkImage b ≡ fault1 b
   pub second : fault1 b ≡ 0 → 0 < fault2 (tritsOf b) (after1 b) → checkImage b ≡ fault2 (tritsOf b) (after1 b)
   pub others : fault1 b ≡ 0 → fault2 (tritsOf b) (after1 b) ≡ 0 → checkImage b ≡ checkGiven (given (tritsOf b) (shadowsOf b)) (after2 b)
+  -- "for section 1: 22 if too large, 23 if 0"
+  pub too-large : 4 ≤ length b → 125536 < countOf b → fault1 b ≡ 22
+  pub section-1 : countOf b ≤ 125536 → SectionGives (fault1 b) b (1 ≤ countOf b) 23 (size1 b) (contentsFault1 (countOf b) (contentsOf (size1 b) b))
+  pub contents-1 : Contents1Gives (countOf b) (contentsOf (size1 b) b)
+  pub section-2 : (trits : List ℕ)
+      → SectionGives (fault2 trits b) b (countOf b ≡ countIn 2 trits) 24 (size2 trits) (fault 24 (shadowsSeen trits (fromBytes 2 (contentsOf (size2 trits) b))))
+  pub sections-3-9 : (s : Section) → let size = length (s .contents) in
+      SectionGives (givenFault s b) b (countOf b ≡ s .entries) 25 size (fault 25 (same (contentsOf size b) (s .contents)))
+  pub one-by-one : (s : Section) (ss : List Section) → checkGiven (s ∷ ss) b ≡ (givenFault s b then checkGiven ss (restOf (length (s .contents)) b))
+  pub left-over : (length b ≡ 0 → ⊥) → checkGiven [] b ≡ 26

@@ -91,9 +91,9 @@ says c v s = record { code = c; value = v; sort = s }
 abbrev pub Beyond : ℕ → ℕ → Type 0
 Beyond n b = (b ≡ 0) ⊎ (n < b)
 
--- What kinds 0 to 2 answer, and where 31, 32 and 33 are given, kind by kind.
+-- What kinds 0 to 2 answer, and where 31, 32 and 33 are given, kind by kind (33 of kinds 4 and 6: Demands, operand-past and user-past).
 pub record Kinds (trits H : List ℕ) : Type 0 where
-  -- "the kind is looked at first, then a, then b"
+  -- "The kind is looked at first, then a, then b"
   pub unknown : (k a b : ℕ) → 6 < k → answer trits H k a b ≡ says 31 0 0
   -- 0: "place below L", b is 0, "the trit"
   pub trit : (a : ℕ) → a < length trits → answer trits H 0 a 0 ≡ says 0 (getD trits a 0) 0

@@ -23,8 +23,8 @@ operandsAt g i = carried (levelOrder g) (operandsOf g (nodeAt (levelOrder g) i))
 abbrev pub usersAt : Graph → ℕ → List ℕ
 usersAt g v = join (map (λ (i : ℕ). replicate (countIn v (operandsAt g i)) i) (oneTo (nodes g)))
 
--- "some one-to-one renumbering of nodes carries the first root list to the second in order and each node's operand list to its
--- counterpart's in order"
+-- "some one-to-one renumbering of nodes carries the first root list to the second, in order, and each node's operand list to its
+-- counterpart's, in order"
 pub record Renumbering (g h : Graph) : Type 0 where
   pub to : ℕ → ℕ
   pub from : ℕ → ℕ

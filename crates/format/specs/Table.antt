@@ -38,12 +38,12 @@ isNode n v = leb 1 v && leb v n
 abbrev pub counted : List ℕ → List ℕ
 counted xs = length xs ∷ xs
 
-unfoldable pub runs : List (List ℕ) → List ℕ
-runs [] = []
-runs (xs ∷ rest) = counted xs ++ runs rest
+unfoldable pub listWords : List (List ℕ) → List ℕ
+listWords [] = []
+listWords (xs ∷ rest) = counted xs ++ listWords rest
 
 unfoldable pub words : Graph → List ℕ
-words g = nodes g ∷ runs (g .operands) ++ counted (g .roots)
+words g = nodes g ∷ listWords (g .operands) ++ counted (g .roots)
 
 -- ---- reading words, front to back
 
@@ -98,13 +98,13 @@ pub data Read : Type 0 where
   graph : Graph → Read
 
 -- nothing may follow the roots
-abbrev pub whole : Got Graph → Read
-whole (stopped f) = faulty f
-whole (got g []) = graph g
-whole (got g (w ∷ ws)) = faulty 6
+abbrev pub wholeTable : Got Graph → Read
+wholeTable (stopped f) = faulty f
+wholeTable (got g []) = graph g
+wholeTable (got g (w ∷ ws)) = faulty 6
 
 unfoldable pub readTable : List ℕ → Read
-readTable ws = whole (readGraph ws)
+readTable ws = wholeTable (readGraph ws)
 
 -- ---- what statements say of it
 
@@ -114,7 +114,7 @@ pub record WellFormed (g : Graph) : Type 0 where
   pub roots-inside : All (Node (nodes g)) (g .roots)
   pub roots-nodup : Nodup (g .roots)
 
-pub record Limits (g : Graph) : Type 0 where
+pub record WithinLimits (g : Graph) : Type 0 where
   pub nodes-fit : nodes g ≤ 30000
   pub edges-fit : edges g ≤ 65535
 
@@ -145,21 +145,21 @@ pub record RootsFront (n : ℕ) (os : List (List ℕ)) (c : ℕ) (rs : List ℕ)
 pub data FirstFault (table : List ℕ) : ℕ → Type 0 where
   -- 1: the table ends before n, a count, an operand or a root
   no-size : table ≡ [] → FirstFault table 1
-  no-count : (n : ℕ) (os : List (List ℕ)) → Front n os → table ≡ n ∷ runs os → FirstFault table 1
-  no-operand : (n : ℕ) (os : List (List ℕ)) (k : ℕ) (vs : List ℕ) → OperandsFront n os k vs → table ≡ n ∷ runs os ++ k ∷ vs → FirstFault table 1
-  no-root : (n : ℕ) (os : List (List ℕ)) (c : ℕ) (rs : List ℕ) → RootsFront n os c rs → table ≡ n ∷ runs os ++ c ∷ rs → FirstFault table 1
+  no-count : (n : ℕ) (os : List (List ℕ)) → Front n os → table ≡ n ∷ listWords os → FirstFault table 1
+  no-operand : (n : ℕ) (os : List (List ℕ)) (k : ℕ) (vs : List ℕ) → OperandsFront n os k vs → table ≡ n ∷ listWords os ++ k ∷ vs → FirstFault table 1
+  no-root : (n : ℕ) (os : List (List ℕ)) (c : ℕ) (rs : List ℕ) → RootsFront n os c rs → table ≡ n ∷ listWords os ++ c ∷ rs → FirstFault table 1
   -- 2: n above 30,000, or an operand count takes m above 65,535
   nodes-above : (n : ℕ) (rest : List ℕ) → 30000 < n → table ≡ n ∷ rest → FirstFault table 2
   edges-above : (n : ℕ) (os : List (List ℕ)) (k : ℕ) (rest : List ℕ) → Front n os → length os < n → 65535 < sumOf length os + k
-      → table ≡ n ∷ runs os ++ k ∷ rest → FirstFault table 2
+      → table ≡ n ∷ listWords os ++ k ∷ rest → FirstFault table 2
   -- 3: operand outside 1 to n
   operand-outside : (n : ℕ) (os : List (List ℕ)) (k : ℕ) (vs : List ℕ) (v : ℕ) (rest : List ℕ) → OperandsFront n os k vs → (Node n v → ⊥)
-      → table ≡ n ∷ runs os ++ k ∷ vs ++ v ∷ rest → FirstFault table 3
+      → table ≡ n ∷ listWords os ++ k ∷ vs ++ v ∷ rest → FirstFault table 3
   -- 4: root outside 1 to n
   root-outside : (n : ℕ) (os : List (List ℕ)) (c : ℕ) (rs : List ℕ) (r : ℕ) (rest : List ℕ) → RootsFront n os c rs → (Node n r → ⊥)
-      → table ≡ n ∷ runs os ++ c ∷ rs ++ r ∷ rest → FirstFault table 4
+      → table ≡ n ∷ listWords os ++ c ∷ rs ++ r ∷ rest → FirstFault table 4
   -- 5: root named before
   root-again : (n : ℕ) (os : List (List ℕ)) (c : ℕ) (rs : List ℕ) (r : ℕ) (rest : List ℕ) → RootsFront n os c rs → Node n r → List·Memᴰ r rs
-      → table ≡ n ∷ runs os ++ c ∷ rs ++ r ∷ rest → FirstFault table 5
+      → table ≡ n ∷ listWords os ++ c ∷ rs ++ r ∷ rest → FirstFault table 5
   -- 6: words after the roots
-  words-after : (g : Graph) (w : ℕ) (rest : List ℕ) → WellFormed g → Limits g → table ≡ words g ++ w ∷ rest → FirstFault table 6
+  words-after : (g : Graph) (w : ℕ) (rest : List ℕ) → WellFormed g → WithinLimits g → table ≡ words g ++ w ∷ rest → FirstFault table 6

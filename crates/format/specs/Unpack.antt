@@ -1,4 +1,4 @@
--- Demand 2, "unpacking gives the table in level order"; and what unpacking answers and leaves. Assumes nothing.
+-- Demand 2, "Unpacking gives the table in level order"; and what unpacking answers and leaves. Assumes nothing.
 use Prim.Native.Nat.{ℕ, zero, suc}
 use mathlib.Core.List.{List, map}
 use lib.Dec.{leb}
