@@ -241,7 +241,7 @@ answer-sound image low e = ranges.fair (tritsOf image) (shadowsOf image) (checks
 pub tryte-entries : (x : ℕ) → x < 243 → getD tryteTable x 0 ≡ tryteCount 0 x 5 + 8 * tryteCount 1 x 5
 tryte-entries = tryte.tryte-entry
 
--- "An image is proper if" it is that of trits and shadows that keep the rules: "a proper image gives 0".
+-- "An image is proper if" it is that of trits and shadows that keep the rules. "A proper image gives 0".
 pub proper-exactly : (b : List ℕ) → Below 256 b → (checkImage b ≡ 0) ↔ ((trits : List ℕ) × (H : List ℕ) × ProperTrits trits H × (b ≡ image trits H))
 proper-exactly = promises.proper-exactly
 
