@@ -15,10 +15,10 @@ use Rattle.format.specs.Trits.{rank, places, trytes, untrytes}
 use Rattle.format.specs.Image.{leBytes, bytes, fromBytes, nodeCount, marked, markedNodes, Section, section2, given, written, image, shadowAt, section3, section1, section4, section5, section6, section7, section8, section9}
 use Rattle.format.specs.Faults.{fault, _then_}
 use Rattle.format.specs.Proper.{bytesLow, padded, rootsFirst, balanced, grown, limits, shadowsSeen, countOf, contentsOf, restOf, sectionFault, size1, size2, after1, after2, contentsFault1, fault1, fault2, checkGiven, checkImage, tritsOf, shadowsOf, ProperTrits, SectionGives}
-use Rattle.format.specs.Table.{Node, isNode}
+use Rattle.format.specs.Table.{Node, isNode, AllNodes}
 use Rattle.format.proofs.Laws.{both-true, at-every, every-at, same-eq, same-refl, count-le, length-run, length-keep, rank-count, rank-here, isNode-node}
 use Rattle.format.proofs.Digits.{horner-digits, horner-lt, digits-horner, below-take, below-drop, length-gather, length-spread, gather-at, gather-spread, spread-gather, spread-gather-at, spread-gather-whole, gather-pad, below-spread, length-block, below-block, up-mul, le-up}
-use Rattle.format.proofs.Sizes.{Nodes, length-trytes, length-bytes}
+use Rattle.format.proofs.Sizes.{length-trytes, length-bytes}
 use Rattle.format.proofs.Select.{place-of, length-places, place-rank}
 use Rattle.format.proofs.FaultLaws.{then-yes, then-zero, fault-zero, fault-yes, then-no}
 
@@ -154,7 +154,7 @@ shadow-seen trits H e p l two =
     isNode-node (rank 1 trits p) (shadowAt trits H p) (ap f (sym (place-rank 2 trits p l two)) ∙ every-at f (places 2 trits) e (rank 2 trits p) 0 j)
 
 -- so every entry of H is a node
-pub shadow-nodes : (trits H : List ℕ) → length H ≡ countIn 2 trits → shadowsSeen trits H ≡ true → Nodes (nodeCount trits) H
+pub shadow-nodes : (trits H : List ℕ) → length H ≡ countIn 2 trits → shadowsSeen trits H ≡ true → AllNodes (nodeCount trits) H
 unfolding nodeCount shadowAt
 shadow-nodes trits H k e j h =
     let p : ℕ = getD (places 2 trits) j 0 in

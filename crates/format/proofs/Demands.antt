@@ -13,7 +13,7 @@ use Rattle.format.specs.Lists.{All, Below, run, oneTo, sumOf, nodeAt, ov
 use Rattle.format.specs.Table.{Graph, faulty, graph, nodes, edges, Node, words, readTable, WellFormed, WithinLimits, FirstFault}
 use Rattle.format.specs.Level.{walk, levelOrder, Reach, Counts}
 use Rattle.format.specs.Trits.{rank, select, trytes, tryteCount, tryteTable}
-use Rattle.format.specs.Image.{nodeCount, group, grouped, starts, marks, markWords, markSamples, pairs, lastMultiple, image, Counted, ReadBack}
+use Rattle.format.specs.Image.{nodeCount, group, grouped, starts, marks, markWords, markSamples, pairs, lastMultiple, image, Sized, ReadBack}
 use Rattle.format.specs.Packing.{imageOf, Accepted, RoomEnough, bytesOf, cleared, packLeaves, packOutcome, Kept}
 use Rattle.format.specs.Proper.{CheckerGives, checkImage, tritsOf, shadowsOf, ProperTrits, ImageCode}
 use Rattle.format.specs.Edges.{operandOf, userOf, operandEdges, useEdges, Edge}
@@ -154,7 +154,7 @@ module _ (table : List ℕ) (g : Graph) (a : Accepted table g) where
   trit-counts = (order.counts g (accepting.packable table g a), accepting.proper-table table g a .length-high)
 
   -- each count says how long its contents are, and no entry is cut to its width: sections 2 to 9, read back, are what was written
-  pub sections-read : Counted trits H × ReadBack trits H
+  pub sections-read : Sized trits H × ReadBack trits H
   sections-read = (widths.sections-counted trits H (accepting.proper-table table g a), widths.sections-back trits H (accepting.proper-table table g a))
 
   -- and the image is read as the trits and H that were packed

@@ -14,9 +14,10 @@ use Rattle.format.specs.Trits.{rank, places}
 use Rattle.format.specs.Image.{nodeCount, edgeCount, written, image, group, shadowAt}
 use Rattle.format.specs.Proper.{tritsOf, shadowsOf, ProperTrits}
 use Rattle.format.specs.Edges.{Edge, operandAt, edgeAt, edgeList, operandEdges, isEdge, userOf}
+use Rattle.format.specs.Table.{AllNodes}
 use Rattle.format.proofs.Laws.{both-true, rank-mono, length-run, getD-run, length-keep, rank-here, getD-other, length-keep-key}
 use Rattle.format.proofs.Select.{place-of, length-places}
-use Rattle.format.proofs.Sizes.{Nodes, total-counts, total-cong}
+use Rattle.format.proofs.Sizes.{total-counts, total-cong}
 use Rattle.format.proofs.CheckLaws.{shadow-nodes, trits-of-image, shadows-of-image}
 use Rattle.format.proofs.ProperLaws.{zeros-ones, last-zero}
 use Rattle.format.proofs.ImageReads.{Each, each-kept}
@@ -87,7 +88,7 @@ map-map : (f : Edge → ℕ) (g : ℕ → Edge) (xs : List ℕ) → map f (map g
 map-map f g [] = refl
 map-map f g (x ∷ xs) = ap {B = List ℕ} (λ r. f (g x) ∷ r) (map-map f g xs)
 
-nodes-map : (n : ℕ) (f : ℕ → ℕ) (xs : List ℕ) → Each (λ x. (1 ≤ f x) × (f x ≤ n)) xs → Nodes n (map f xs)
+nodes-map : (n : ℕ) (f : ℕ → ℕ) (xs : List ℕ) → Each (λ x. (1 ≤ f x) × (f x ≤ n)) xs → AllNodes n (map f xs)
 nodes-map n f [] h j l = absurd (not-suc-le-zero l)
 nodes-map n f (x ∷ xs) h zero l = h zero (suc-le-suc zero-le)
 nodes-map n f (x ∷ xs) h (suc j) l = nodes-map n f xs (λ i k. h (suc i) (suc-le-suc k)) j (le-of-suc-le-suc l)
@@ -99,7 +100,7 @@ length-edges trits H pr =
     let ps : List ℕ = keep (isEdge trits) (run 0 (length trits)) in
     let us : List ℕ = map userOf (edgeList trits H) in
     let eus : us ≡ map (rank 0 trits) ps = map-map userOf (edgeAt trits H) ps in
-    let ok : Nodes n us = subst (Nodes n) (sym eus)
+    let ok : AllNodes n us = subst (AllNodes n) (sym eus)
     (nodes-map n (rank 0 trits) ps (λ i l. let d : Edged trits (getD ps i 0) = edge-places trits i l in (d .used, user-node trits H pr (getD ps i 0) (d .inside)))) in
     sym (length-map (edgeList trits H) userOf)
     ∙ sym (total-counts n us ok)

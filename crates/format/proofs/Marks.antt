@@ -16,9 +16,10 @@ use borrow.Author.Tests.{ltb-false}
 use Rattle.format.specs.Lists.{bit, run, consIf, keep, countIn, up, lowDigits, Below, join}
 use Rattle.format.specs.Trits.{rank}
 use Rattle.format.specs.Image.{nodeCount, marked, marks, markWords, markSamples, markedNodes, group, grouped, starts}
+use Rattle.format.specs.Table.{AllNodes}
 use Rattle.format.proofs.Laws.{getD-each, rank-add, bit-le, getD-map-run}
 use Rattle.format.proofs.Digits.{length-digits, gather-digit, lt-up}
-use Rattle.format.proofs.Sizes.{length-marks, length-group, length-grouped, Nodes, grouped-suc, grouped-add}
+use Rattle.format.proofs.Sizes.{length-marks, length-group, length-grouped, grouped-suc, grouped-add}
 
 -- ---- the marks of nodes 1 to n
 
@@ -143,7 +144,7 @@ flat trits H e j q =
     ap length (grouped-suc trits H j) ∙ length-append (grouped trits H j) (group trits H (suc j))
     ∙ omega (arith, length-group trits H e (suc j), ltb-false 0 (countIn (suc j) H) q)
 
-pub starts-at : (trits H : List ℕ) → length H ≡ countIn 2 trits → Nodes (nodeCount trits) H → (j : ℕ) → j ≤ nodeCount trits
+pub starts-at : (trits H : List ℕ) → length H ≡ countIn 2 trits → AllNodes (nodeCount trits) H → (j : ℕ) → j ≤ nodeCount trits
     → getD (starts trits H) (rank 1 (marks trits H) j) 0 ≡ length (grouped trits H j)
 unfolding starts markedNodes marks from before rank
 starts-at trits H e h j l =

@@ -14,6 +14,7 @@ use lib.Seq.{ext-getD}
 use Rattle.format.specs.Lists.{bit, run, join, countIn, up, oneTo}
 use Rattle.format.specs.Trits.{rank, places, trytes}
 use Rattle.format.specs.Image.{leBytes, bytes, nodeCount, marked, marks, markWords, group, grouped, markedNodes, starts, pair, pairs, lastMultiple, markSamples, Section, section1, section2, given, written, image, shadowAt, section3, section4, section5, section6, section7, section8, section9}
+use Rattle.format.specs.Table.{AllNodes}
 use Rattle.format.proofs.Laws.{length-run, length-each, true-both, bit-le, run-snoc, join-append, length-keep-key, run-add, getD-other}
 use Rattle.format.proofs.Digits.{length-digits, length-gather, length-spread, length-blocks}
 use Rattle.format.proofs.Select.{length-places, place-of}
@@ -52,11 +53,7 @@ lows-zero (suc h ∷ H) = ap (λ (b : Bool). bit (leb 1 (suc h) && b) + lows 0 H
     go true e = ap (λ (k : ℕ). 0 + k) e
     go false e = ap (λ (k : ℕ). 0 + k) e
 
--- every entry of H is a node
-abbrev pub Nodes : ℕ → List ℕ → Type 0
-Nodes n H = (j : ℕ) → j < length H → (1 ≤ getD H j 0) × (getD H j 0 ≤ n)
-
-lows-all : (n : ℕ) (H : List ℕ) → Nodes n H → lows n H ≡ length H
+lows-all : (n : ℕ) (H : List ℕ) → AllNodes n H → lows n H ≡ length H
 unfolding lows
 lows-all n [] h = refl
 lows-all n (x ∷ H) h =
@@ -98,7 +95,7 @@ length-grouped-lows trits H e (suc j) =
     ap length (grouped-suc trits H j) ∙ length-append (grouped trits H j) (group trits H (suc j))
     ∙ omega (arith, length-grouped-lows trits H e j, length-group trits H e (suc j), lows-suc j H)
 
-pub length-grouped : (trits H : List ℕ) → length H ≡ countIn 2 trits → Nodes (nodeCount trits) H → length (grouped trits H (nodeCount trits)) ≡ length H
+pub length-grouped : (trits H : List ℕ) → length H ≡ countIn 2 trits → AllNodes (nodeCount trits) H → length (grouped trits H (nodeCount trits)) ≡ length H
 length-grouped trits H e h = length-grouped-lows trits H e (nodeCount trits) ∙ lows-all (nodeCount trits) H h
 
 lows-le : (j : ℕ) (H : List ℕ) → lows j H ≤ length H
@@ -164,7 +161,7 @@ imageLength trits H =
     let h : ℕ = length (markedNodes trits H) in
     9 * 4 + up L 5 + 2 * k + 8 * up n 64 + 4 * (h + 1) + 4 * k + 8 * (L / 65725 + 1) + 4 * (L / 275 + 1) + 2 * (L / 25 + 1) + 2 * up n 64
 
-pub length-image : (trits H : List ℕ) → length H ≡ countIn 2 trits → Nodes (nodeCount trits) H → length (image trits H) ≡ imageLength trits H
+pub length-image : (trits H : List ℕ) → length H ≡ countIn 2 trits → AllNodes (nodeCount trits) H → length (image trits H) ≡ imageLength trits H
 unfolding image imageLength given section1 section2 section3 section4 section5 section6 section7 section8 section9
 length-image trits H e h =
     length-written (section1 trits H ∷ section2 trits H ∷ given trits H)
@@ -195,7 +192,7 @@ total f zero = 0
 total f (suc i) = total f i + f (suc i)
 
 -- entries that are nodes 1 to n, counted node by node
-pub total-counts : (n : ℕ) (H : List ℕ) → Nodes n H → total (λ i. countIn i H) n ≡ length H
+pub total-counts : (n : ℕ) (H : List ℕ) → AllNodes n H → total (λ i. countIn i H) n ≡ length H
 total-counts n H h = go n ∙ lows-all n H h
   where
     go : (j : ℕ) → total (λ i. countIn i H) j ≡ lows j H

@@ -11,8 +11,9 @@ use Rattle.format.specs.Lists.{bit, countIn}
 use Rattle.format.specs.Trits.{rank}
 use Rattle.format.specs.Image.{nodeCount, marked, marks, markedNodes, group, grouped, starts}
 use Rattle.format.specs.Proper.{ProperTrits}
+use Rattle.format.specs.Table.{AllNodes}
 use Rattle.format.proofs.Laws.{rank-hit}
-use Rattle.format.proofs.Sizes.{Nodes, length-marks, grouped-suc}
+use Rattle.format.proofs.Sizes.{length-marks, grouped-suc}
 use Rattle.format.proofs.CheckLaws.{shadow-nodes}
 use Rattle.format.proofs.Marks.{marks-at, starts-at, group-at}
 
@@ -21,7 +22,7 @@ next-indexed : (trits H : List ℕ) → ProperTrits trits H → (k : ℕ) → k 
     group trits H (suc k) ≡ take (getD (starts trits H) (j + 1) 0 - getD (starts trits H) j 0) (drop (getD (starts trits H) j 0) (grouped trits H (nodeCount trits)))
 unfolding marked
 next-indexed trits H p k l pos =
-    let nodes : Nodes (nodeCount trits) H = shadow-nodes trits H (p .paired) (p .seen) in
+    let nodes : AllNodes (nodeCount trits) H = shadow-nodes trits H (p .paired) (p .seen) in
     let j : ℕ = rank 1 (marks trits H) k in
     let mark : getD (marks trits H) k 0 ≡ 1 = marks-at trits H k l ∙ ap bit (lt-ltb 0 (countIn (suc k) H) pos) in
     let here : getD (starts trits H) j 0 ≡ length (grouped trits H k) = starts-at trits H (p .paired) nodes k (omega arith) in

@@ -30,6 +30,10 @@ operandsOf g (suc i) = getD (g .operands) i []
 abbrev pub Node : ℕ → ℕ → Type 0
 Node n v = (1 ≤ v) × (v ≤ n)
 
+-- every number of the list is a node
+abbrev pub AllNodes : ℕ → List ℕ → Type 0
+AllNodes n xs = (j : ℕ) → j < length xs → Node n (getD xs j 0)
+
 abbrev pub isNode : ℕ → ℕ → Bool
 isNode n v = leb 1 v && leb v n
 
