@@ -1,0 +1,26 @@
+-- What the writers of sections 5 to 8 are lent: the contents of sections 1 and 2, and the table of trytes. Assumes nothing.
+use Prim.Native.Nat.{ℕ, _+_, _*_, _≤_, _<_}
+use mathlib.Core.Path.{_≡_}
+use mathlib.Core.List.{List}
+use lib.ListN.{length, getD}
+use Rattle.format.specs.Lists.{countIn, Below}
+use Rattle.format.specs.Trits.{trytes, tryteCount}
+use Rattle.format.specs.Image.{bytes, nodeCount}
+use Rattle.format.specs.Table.{AllNodes}
+
+-- the table gives the zeros and ones of every tryte: an entry is zeros + 8 · ones
+abbrev pub Rule : List ℕ → Type 0
+Rule table = (x : ℕ) → x < 243 → getD table x 0 ≡ tryteCount 0 x 5 + 8 * tryteCount 1 x 5
+
+-- bs is section 1's contents: the trytes of the trits
+pub record TritsIn (trits bs : List ℕ) : Type 0 where
+  pub threes : Below 3 trits
+  pub few : length trits ≤ 125536
+  pub trytes-are : bs ≡ trytes trits
+
+-- bs is section 2's contents: the shadows, a node for every 2
+pub record ShadowsIn (trits H bs : List ℕ) : Type 0 where
+  pub paired : length H ≡ countIn 2 trits
+  pub nodes : AllNodes (nodeCount trits) H
+  pub nodes-few : nodeCount trits ≤ 30000
+  pub shadows-are : bs ≡ bytes 2 H
