@@ -1,5 +1,5 @@
--- What the index sections answer is what the plain definitions say: rank by three samples, operands between two zeros, uses by the marks. Assumes nothing.
-use Prim.Native.Nat.{ℕ, zero, suc, _+_, _-_, _*_, _/_, _≤_, _<_, zero-le, suc-le-suc}
+-- What the index sections answer is what the plain definitions say: operands between two zeros, uses by the marks. Assumes nothing.
+use Prim.Native.Nat.{ℕ, zero, suc, _+_, _-_, _≤_, _<_, zero-le, suc-le-suc}
 use native.Mathlib.Nat.{suc-add, add-suc, le-of-suc-le-suc, not-suc-le-zero}
 use native.Mathlib.Omega.{arith}
 use mathlib.Core.Path.{_≡_, refl, sym, ap, ap₂, _∙_}
@@ -11,41 +11,14 @@ use lib.ListN.{length, getD, drop, getElem?, length-append}
 use lib.Seq.{getD-append-add, getD-take, getD-drop}
 use borrow.Author.Tests.{lt-ltb}
 use Rattle.format.specs.Lists.{bit, run, consIf, countIn, numbered}
-use Rattle.format.specs.Trits.{rank}
-use Rattle.format.specs.Image.{nodeCount, rootCount, markedNodes, group, grouped, lastMultiple, image}
+use Rattle.format.specs.Image.{nodeCount, rootCount, group, grouped}
 use Rattle.format.specs.Proper.{ProperTrits}
 use Rattle.format.specs.Edges.{Edge, edgeAt, operandEdges, useEdges}
 use Rattle.format.proofs.Laws.{length-run, getD-run}
-use Rattle.format.proofs.Select.{rank-samples, getElem-none}
-use Rattle.format.proofs.Sizes.{length-group, length-pairs}
+use Rattle.format.proofs.Select.{getElem-none}
+use Rattle.format.proofs.Sizes.{length-group}
 use Rattle.format.proofs.ProperLaws.{nth, operands-places, uses-places, operand-count, use-count}
 use Rattle.format.proofs.Marks.{group-at}
-use Rattle.format.proofs.ImageReads.{read, at6, at7, at8, pairs-at, read-sample6, read-sample7, read-sample8}
-
--- ---- rank
-
--- the three samples of a place p add up to the rank before the last multiple of 25; t is 0 or 1
-pub sampled : (trits H : List ℕ) → ProperTrits trits H → (t p : ℕ) → t < 2 → p ≤ length trits
-    → read 4 (at6 (length trits) (length H) (nodeCount trits) (length (markedNodes trits H)) + 4 * (2 * (p / 65725) + t)) (image trits H)
-    + read 2 (at7 (length trits) (length H) (nodeCount trits) (length (markedNodes trits H)) + 2 * (2 * (p / 275) + t)) (image trits H)
-    + read 1 (at8 (length trits) (length H) (nodeCount trits) (length (markedNodes trits H)) + 1 * (2 * (p / 25) + t)) (image trits H)
-    ≡ rank t trits (lastMultiple 25 p)
-unfolding rank
-sampled trits H pr t p lt lp =
-    let l6 : p / 65725 < length trits / 65725 + 1 = omega arith in
-    let l7 : p / 275 < length trits / 275 + 1 = omega arith in
-    let l8 : p / 25 < length trits / 25 + 1 = omega arith in
-    let none : rank t trits 0 ≡ 0 = refl in
-    omega (
-      arith,
-      read-sample6 trits H pr (2 * (p / 65725) + t) (omega (arith, length-pairs 65725 (λ p. 0) trits)),
-      pairs-at 65725 (λ p. 0) trits (p / 65725) t l6 lt,
-      read-sample7 trits H pr (2 * (p / 275) + t) (omega (arith, length-pairs 275 (lastMultiple 65725) trits)),
-      pairs-at 275 (lastMultiple 65725) trits (p / 275) t l7 lt,
-      read-sample8 trits H pr (2 * (p / 25) + t) (omega (arith, length-pairs 25 (lastMultiple 275) trits)),
-      pairs-at 25 (lastMultiple 275) trits (p / 25) t l8 lt,
-      rank-samples t trits p,
-    )
 
 -- ---- operands
 

@@ -1,0 +1,674 @@
+// Trits, rank and select on a checked image: three levels of samples, then trytes, then trits.
+// A tryte is five trits in a byte; a block is 25 trits, five trytes.
+use format::FAR;
+use format::Found;
+use format::MIDDLE;
+use format::NEAR;
+use little::get1;
+use little::get2;
+use little::get4;
+use little::wide;
+ghost use mathlib.Core.Path.{_≡_};
+ghost use Prim.Native.Nat.{_+_, _*_, _/_, _%_, _^_, _≤_, _<_};
+ghost use lib.ListN.{length, getD};
+ghost use Rattle.format.specs.Lists.{countIn};
+ghost use Rattle.format.specs.Trits.{rank, select, tryteCount, tryteTable, Selected};
+ghost use Rattle.format.specs.Proper.{checkImage, tritsOf};
+ghost use Rattle.format.specs.Answers.{foundPlace};
+ghost use Rattle.format.proofs.ImageReads.{read};
+ghost use Rattle.trits.specs.Layout.{layout, layoutOf, Laid, farOf, middleOf, nearOf, totalOf};
+ghost use Rattle.trits.specs.Search.{Sampled, Tryte, Spotted};
+
+// Zeros + 8 · ones of the five trits of every tryte.
+const TABLE: [u8; 243] = [
+    5,
+    12,
+    4,
+    12,
+    19,
+    11,
+    4,
+    11,
+    3,
+    12,
+    19,
+    11,
+    19,
+    26,
+    18,
+    11,
+    18,
+    10,
+    4,
+    11,
+    3,
+    11,
+    18,
+    10,
+    3,
+    10,
+    2,
+    12,
+    19,
+    11,
+    19,
+    26,
+    18,
+    11,
+    18,
+    10,
+    19,
+    26,
+    18,
+    26,
+    33,
+    25,
+    18,
+    25,
+    17,
+    11,
+    18,
+    10,
+    18,
+    25,
+    17,
+    10,
+    17,
+    9,
+    4,
+    11,
+    3,
+    11,
+    18,
+    10,
+    3,
+    10,
+    2,
+    11,
+    18,
+    10,
+    18,
+    25,
+    17,
+    10,
+    17,
+    9,
+    3,
+    10,
+    2,
+    10,
+    17,
+    9,
+    2,
+    9,
+    1,
+    12,
+    19,
+    11,
+    19,
+    26,
+    18,
+    11,
+    18,
+    10,
+    19,
+    26,
+    18,
+    26,
+    33,
+    25,
+    18,
+    25,
+    17,
+    11,
+    18,
+    10,
+    18,
+    25,
+    17,
+    10,
+    17,
+    9,
+    19,
+    26,
+    18,
+    26,
+    33,
+    25,
+    18,
+    25,
+    17,
+    26,
+    33,
+    25,
+    33,
+    40,
+    32,
+    25,
+    32,
+    24,
+    18,
+    25,
+    17,
+    25,
+    32,
+    24,
+    17,
+    24,
+    16,
+    11,
+    18,
+    10,
+    18,
+    25,
+    17,
+    10,
+    17,
+    9,
+    18,
+    25,
+    17,
+    25,
+    32,
+    24,
+    17,
+    24,
+    16,
+    10,
+    17,
+    9,
+    17,
+    24,
+    16,
+    9,
+    16,
+    8,
+    4,
+    11,
+    3,
+    11,
+    18,
+    10,
+    3,
+    10,
+    2,
+    11,
+    18,
+    10,
+    18,
+    25,
+    17,
+    10,
+    17,
+    9,
+    3,
+    10,
+    2,
+    10,
+    17,
+    9,
+    2,
+    9,
+    1,
+    11,
+    18,
+    10,
+    18,
+    25,
+    17,
+    10,
+    17,
+    9,
+    18,
+    25,
+    17,
+    25,
+    32,
+    24,
+    17,
+    24,
+    16,
+    10,
+    17,
+    9,
+    17,
+    24,
+    16,
+    9,
+    16,
+    8,
+    3,
+    10,
+    2,
+    10,
+    17,
+    9,
+    2,
+    9,
+    1,
+    10,
+    17,
+    9,
+    17,
+    24,
+    16,
+    9,
+    16,
+    8,
+    2,
+    9,
+    1,
+    9,
+    16,
+    8,
+    1,
+    8,
+    0,
+];
+
+// L, n, c, k and h, and where the contents of each section start.
+pub struct Layout {
+    pub trits: usize,
+    pub nodes: usize,
+    pub roots: usize,
+    pub shadows: usize,
+    pub marked: usize,
+    pub at1: usize,
+    pub at2: usize,
+    pub at3: usize,
+    pub at4: usize,
+    pub at5: usize,
+    pub at6: usize,
+    pub at7: usize,
+    pub at8: usize,
+    pub at9: usize,
+}
+
+// A level of samples: pairs, zeros then ones, of `width` bytes a number from byte `at` on, before multiples 0 to `last` of `step`, each counted
+// from the last multiple of `fan` steps.
+struct Samples {
+    at: usize,
+    width: usize,
+    step: usize,
+    fan: usize,
+    last: usize,
+}
+
+// Multiple `at` of a step, and how many of a trit stand before it.
+struct Spot {
+    at: usize,
+    before: usize,
+}
+
+// The layout of an image with so many trits, nodes, roots, shadows and marked nodes.
+pub fn lay_out(trits: usize, nodes: usize, roots: usize, shadows: usize, marked: usize) -> Layout
+    requires { ⌜ (trits ≤ 125536) × (nodes ≤ 30000) × (shadows ≤ 125536) × (marked ≤ 30000) ⌝ }
+    ensures { λ r. ⌜ r ≡ layout trits nodes roots shadows marked ⌝ }
+{
+    let words = (nodes + 63) / 64;
+    let at2 = 4 + (trits + 4) / 5 + 4;
+    let at3 = at2 + 2 * shadows + 4;
+    let at4 = at3 + 8 * words + 4;
+    let at5 = at4 + 4 * (marked + 1) + 4;
+    let at6 = at5 + 4 * shadows + 4;
+    let at7 = at6 + 4 * (2 * (trits / FAR + 1)) + 4;
+    let at8 = at7 + 2 * (2 * (trits / MIDDLE + 1)) + 4;
+    let at9 = at8 + 2 * (trits / NEAR + 1) + 4;
+    Layout {
+        trits,
+        nodes,
+        roots,
+        shadows,
+        marked,
+        at1: 4,
+        at2,
+        at3,
+        at4,
+        at5,
+        at6,
+        at7,
+        at8,
+        at9,
+    }
+}
+
+// The table, for a caller to bind once and lend.
+pub fn tryte_table() -> [u8; 243]
+    ensures { λ r. ⌜ r ≡ tryteTable ⌝ }
+{
+    TABLE
+}
+
+// ---- one tryte
+
+// Tryte `q` of section 1.
+fn tryte(image: &[u8], lay: Layout, q: usize) -> usize
+    requires { ⌜ (Laid (now image) lay) × (5 * q < length (tritsOf (now image))) ⌝ }
+    ensures { λ r. ⌜ Tryte (tritsOf (now (image .entry))) q r ⌝ }
+{
+    let start = lay.at1;
+    let at = start + q;
+    wide(image[at])
+}
+
+// Trit `r` of tryte `x`.
+fn digit(x: usize, r: usize) -> usize
+    requires { ⌜ r < 5 ⌝ }
+    ensures { λ d. ⌜ d ≡ x / 3 ^ r % 3 ⌝ }
+{
+    match r {
+        0 => x % 3,
+        1 => x / 3 % 3,
+        2 => x / 9 % 3,
+        3 => x / 27 % 3,
+        _ => x / 81 % 3,
+    }
+}
+
+// How often `t` stands in tryte `x`, by the table.
+fn tryte_count(table: &[u8; 243], x: usize, t: usize) -> usize
+    requires { ⌜ (now table ≡ tryteTable) × (x < 243) × (t < 3) ⌝ }
+    ensures { λ r. ⌜ (r ≡ tryteCount t x 5) × (r ≤ 5) ⌝ }
+{
+    let e = wide(table[x]);
+    if t == 0 {
+        return e % 8;
+    }
+    if t == 1 {
+        return e / 8;
+    }
+    5 - e % 8 - e / 8
+}
+
+// How often `t` stands in the first `r` trits of tryte `x`, by division.
+fn tryte_part(x: usize, t: usize, r: usize) -> usize
+    requires { ⌜ r ≤ 5 ⌝ }
+    ensures { λ n. ⌜ (n ≡ tryteCount t x r) × (n ≤ 5) ⌝ }
+{
+    let mut n: usize = 0;
+    let mut left = x;
+    let mut i: usize = 0;
+    while i < r {
+        let trit = left % 3;
+        left /= 3;
+        i += 1;
+        if trit == t {
+            n += 1;
+        }
+    }
+    n
+}
+
+// ---- one level of samples
+
+// Section 6; two steps pass the end of any image.
+fn far(lay: Layout) -> Samples
+    ensures { λ r. ⌜ r ≡ farOf lay ⌝ }
+{
+    let at = lay.at6;
+    let trits = lay.trits;
+    let last = trits / FAR;
+    Samples {
+        at,
+        width: 4,
+        step: FAR,
+        fan: 2,
+        last,
+    }
+}
+
+// Section 7.
+fn middle(lay: Layout) -> Samples
+    ensures { λ r. ⌜ r ≡ middleOf lay ⌝ }
+{
+    let at = lay.at7;
+    let trits = lay.trits;
+    let last = trits / MIDDLE;
+    Samples {
+        at,
+        width: 2,
+        step: MIDDLE,
+        fan: FAR / MIDDLE,
+        last,
+    }
+}
+
+// Section 8.
+fn near(lay: Layout) -> Samples
+    ensures { λ r. ⌜ r ≡ nearOf lay ⌝ }
+{
+    let at = lay.at8;
+    let trits = lay.trits;
+    let last = trits / NEAR;
+    Samples {
+        at,
+        width: 1,
+        step: NEAR,
+        fan: MIDDLE / NEAR,
+        last,
+    }
+}
+
+// Number `i` of a level.
+fn entry(image: &[u8], s: Samples, i: usize) -> usize
+    requires { ⌜ (Sampled (now image) s) × (i < 2 * (s .last + 1)) ⌝ }
+    ensures { λ r. ⌜ r ≡ read (s .width) (s .at + s .width * i) (now (image .entry)) ⌝ }
+{
+    let width = s.width;
+    let start = s.at;
+    if width == 1 {
+        let at = start + i;
+        return get1(image, at);
+    }
+    if width == 2 {
+        let at = start + 2 * i;
+        return get2(image, at);
+    }
+    let at = start + 4 * i;
+    get4(image, at)
+}
+
+// How often `t` stands between multiples `first` and `q` of a level's step, where the sample at `q` counts from `first`.
+fn counted(image: &[u8], s: Samples, t: usize, first: usize, q: usize) -> usize
+    requires { ⌜ (Sampled (now image) s) × (t < 3) × (q ≤ s .last) × (first ≡ s .fan * (q / s .fan)) ⌝ }
+    ensures { λ r. ⌜ rank t (tritsOf (now (image .entry))) (s .step * first) + r ≡ rank t (tritsOf (now (image .entry))) (s .step * q) ⌝ }
+{
+    let pair = 2 * q;
+    if t < 2 {
+        let i = pair + t;
+        return entry(image, s, i);
+    }
+    let next = pair + 1;
+    let zeros = entry(image, s, pair);
+    let ones = entry(image, s, next);
+    let step = s.step;
+    let span = step * (q - first);
+    span - zeros - ones
+}
+
+// The spot of the `t` number `j` at a level's step, from its spot at the step of the level above: by halving.
+fn halve(image: &[u8], s: Samples, t: usize, j: usize, above: Spot) -> Spot
+    requires { ⌜ (Sampled (now image) s) × (t < 3) × (Spotted (s .fan * s .step) t (tritsOf (now image)) j above) ⌝ }
+    ensures { λ r. ⌜ Spotted (s .step) t (tritsOf (now (image .entry))) j r ⌝ }
+{
+    let base = above.before;
+    let spot = above.at;
+    let fan = s.fan;
+    let last = s.last;
+    let first = fan * spot;
+    let room = last - first;
+    let mut lo = first;
+    let mut len = fan;
+    if room < len {
+        len = room + 1;
+    }
+    let mut n = base;
+    while 1 < len {
+        let half = len / 2;
+        let mid = lo + half;
+        let x = base + counted(image, s, t, first, mid);
+        len -= half;
+        if x < j {
+            lo = mid;
+            n = x;
+        }
+    }
+    Spot { at: lo, before: n }
+}
+
+// ---- rank
+
+// Rank of `t` before block `g`: one sample of each level.
+fn rank_block(image: &[u8], lay: Layout, t: usize, g: usize) -> usize
+    requires { ⌜ (Laid (now image) lay) × (t < 3) × (g ≤ length (tritsOf (now image)) / 25) ⌝ }
+    ensures { λ r. ⌜ r ≡ rank t (tritsOf (now (image .entry))) (25 * g) ⌝ }
+{
+    let q6 = g / (FAR / NEAR);
+    let q7 = g / (MIDDLE / NEAR);
+    let first7 = FAR / MIDDLE * q6;
+    let first8 = MIDDLE / NEAR * q7;
+    let six = counted(image, far(lay), t, 0, q6);
+    let seven = counted(image, middle(lay), t, first7, q7);
+    let eight = counted(image, near(lay), t, first8, g);
+    six + seven + eight
+}
+
+// The trytes from `from` up to `end` on top of the rank before `from`: at most five.
+fn rank_trytes(
+    image: &[u8],
+    table: &[u8; 243],
+    lay: Layout,
+    t: usize,
+    from: usize,
+    end: usize,
+    before: usize,
+) -> usize
+    requires { ⌜ (Laid (now image) lay) × (now table ≡ tryteTable) × (t < 3) × (from ≤ end) × (end ≤ from + 5) × (5 * end ≤ length (tritsOf (now image))) × (before ≡ rank t (tritsOf (now image)) (5 * from)) ⌝ }
+    ensures { λ r. ⌜ r ≡ rank t (tritsOf (now (image .entry))) (5 * end) ⌝ }
+{
+    let mut n = before;
+    let mut q = from;
+    while q < end {
+        let x = tryte(image, lay, q);
+        n += tryte_count(table, x, t);
+        q += 1;
+    }
+    n
+}
+
+// Rank of `t` before place `p`, up to L: its block's rank, at most five whole trytes, and part of one.
+pub fn rank(image: &[u8], table: &[u8; 243], lay: Layout, t: usize, p: usize) -> usize
+    requires { ⌜ (checkImage (now image) ≡ 0) × (now table ≡ tryteTable) × (lay ≡ layoutOf (now image)) × (t < 3) × (p ≤ length (tritsOf (now image))) ⌝ }
+    ensures { λ r. ⌜ r ≡ rank t (tritsOf (now (image .entry))) p ⌝ }
+{
+    let g = p / NEAR;
+    let from = 5 * g;
+    let end = p / 5;
+    let block = rank_block(image, lay, t, g);
+    let whole = rank_trytes(image, table, lay, t, from, end, block);
+    let r = p % 5;
+    if r == 0 {
+        return whole;
+    }
+    let x = tryte(image, lay, end);
+    whole + tryte_part(x, t, r)
+}
+
+// ---- the trit at a place
+
+// Trit `p % 5` of tryte `p / 5`.
+pub fn trit_at(image: &[u8], lay: Layout, p: usize) -> usize
+    requires { ⌜ (checkImage (now image) ≡ 0) × (lay ≡ layoutOf (now image)) × (p < length (tritsOf (now image))) ⌝ }
+    ensures { λ r. ⌜ r ≡ getD (tritsOf (now (image .entry))) p 0 ⌝ }
+{
+    let q = p / 5;
+    let x = tryte(image, lay, q);
+    digit(x, p % 5)
+}
+
+// ---- select
+
+// How many `t` there are.
+fn total(lay: Layout, t: usize) -> usize
+    requires { ⌜ (lay .nodes ≤ 30000) × (t < 3) ⌝ }
+    ensures { λ r. ⌜ r ≡ totalOf lay t ⌝ }
+{
+    let nodes = lay.nodes;
+    if t == 0 {
+        return nodes + 1;
+    }
+    if t == 1 {
+        return nodes;
+    }
+    lay.shadows
+}
+
+// The tryte in which the `t` number `j` stands, from its block: at most five trytes.
+fn find_tryte(image: &[u8], table: &[u8; 243], lay: Layout, t: usize, j: usize, s: Spot) -> Spot
+    requires { ⌜ (Laid (now image) lay) × (now table ≡ tryteTable) × (t < 3) × (Spotted 25 t (tritsOf (now image)) j s) ⌝ }
+    ensures { λ r. ⌜ Spotted 5 t (tritsOf (now (image .entry))) j r ⌝ }
+{
+    let block = s.at;
+    let mut n = s.before;
+    let mut q = 5 * block;
+    loop {
+        let x = tryte(image, lay, q);
+        let more = n + tryte_count(table, x, t);
+        if j <= more {
+            return Spot { at: q, before: n };
+        }
+        n = more;
+        q += 1;
+    }
+}
+
+// The place of the `t` number `j`, from its tryte: at most five trits.
+fn find_trit(image: &[u8], lay: Layout, t: usize, j: usize, s: Spot) -> usize
+    requires { ⌜ (Laid (now image) lay) × (Spotted 5 t (tritsOf (now image)) j s) ⌝ }
+    ensures { λ r. ⌜ Selected t (tritsOf (now (image .entry))) j r ⌝ }
+{
+    let q = s.at;
+    let x = tryte(image, lay, q);
+    let mut left = x;
+    let mut n = s.before;
+    let mut p = 5 * q;
+    loop {
+        let trit = left % 3;
+        let here = p;
+        left /= 3;
+        p += 1;
+        if trit == t {
+            n += 1;
+            if n == j {
+                return here;
+            }
+        }
+    }
+}
+
+// The place of the `t` number `j`, where there is one: through the levels to its block, its tryte and itself.
+fn find(image: &[u8], table: &[u8; 243], lay: Layout, t: usize, j: usize) -> usize
+    requires { ⌜ (Laid (now image) lay) × (now table ≡ tryteTable) × (t < 3) × (0 < j) × (j ≤ countIn t (tritsOf (now image))) ⌝ }
+    ensures { λ r. ⌜ Selected t (tritsOf (now (image .entry))) j r ⌝ }
+{
+    let all = Spot { at: 0, before: 0 };
+    let six = halve(image, far(lay), t, j, all);
+    let seven = halve(image, middle(lay), t, j, six);
+    let eight = halve(image, near(lay), t, j, seven);
+    let tryte = find_tryte(image, table, lay, t, j, eight);
+    find_trit(image, lay, t, j, tryte)
+}
+
+// The place of the `t` number `j`; nothing where `j` is 0 or more than there are.
+pub fn select(image: &[u8], table: &[u8; 243], lay: Layout, t: usize, j: usize) -> Found
+    requires { ⌜ (checkImage (now image) ≡ 0) × (now table ≡ tryteTable) × (lay ≡ layoutOf (now image)) × (t < 3) ⌝ }
+    ensures { λ r. ⌜ foundPlace r ≡ select t (tritsOf (now (image .entry))) j ⌝ }
+{
+    if j == 0 {
+        return Found::Nothing;
+    }
+    if total(lay, t) < j {
+        return Found::Nothing;
+    }
+    Found::At(find(image, table, lay, t, j))
+}
