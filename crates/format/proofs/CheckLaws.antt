@@ -4,7 +4,7 @@ use native.Mathlib.Nat.{le-trans, suc-inj}
 use native.Mathlib.Omega.{arith}
 use native.Mathlib.Decide.{decLe}
 use mathlib.Core.Path.{_≡_, refl, sym, ap, ap₂, _∙_, subst}
-use mathlib.Core.Bool.{Bool, true}
+use mathlib.Core.Bool.{Bool, true, false}
 use mathlib.Core.List.{List, [], _∷_, _++_}
 use lib.Dec.{eqb, leb, lit<}
 use lib.ListN.{length, getD, take, drop, length-append, take-append-drop, length-drop, List·getD-eq-default}
@@ -14,13 +14,13 @@ use Rattle.format.specs.Lists.{run, same, countIn, up, horner, spread, B
 use Rattle.format.specs.Trits.{rank, places, trytes, untrytes}
 use Rattle.format.specs.Image.{leBytes, bytes, fromBytes, nodeCount, marked, markedNodes, Section, section2, given, written, image, shadowAt, section3, section1, section4, section5, section6, section7, section8, section9}
 use Rattle.format.specs.Faults.{fault, _then_}
-use Rattle.format.specs.Proper.{bytesLow, padded, rootsFirst, balanced, grown, limits, shadowsSeen, countOf, contentsOf, restOf, sectionFault, size1, size2, after1, after2, contentsFault1, fault1, fault2, checkGiven, checkImage, tritsOf, shadowsOf, ProperTrits, SectionGives}
+use Rattle.format.specs.Proper.{bytesLow, padded, rootsFirst, balanced, grown, limits, shadowsSeen, countOf, contentsOf, restOf, sectionFault, size1, size2, after1, after2, contentsFault1, fault1, fault2, checkGiven, checkImage, tritsOf, shadowsOf, ProperTrits, SectionGives, Contents1Gives}
 use Rattle.format.specs.Table.{Node, isNode, AllNodes}
 use Rattle.format.proofs.Laws.{both-true, at-every, every-at, same-eq, same-refl, count-le, length-run, length-keep, rank-count, rank-here, isNode-node}
 use Rattle.format.proofs.Digits.{horner-digits, horner-lt, digits-horner, below-take, below-drop, length-gather, length-spread, gather-at, gather-spread, spread-gather, spread-gather-at, spread-gather-whole, gather-pad, below-spread, length-block, below-block, up-mul, le-up}
 use Rattle.format.proofs.Sizes.{length-trytes, length-bytes}
 use Rattle.format.proofs.Select.{place-of, length-places, place-rank}
-use Rattle.format.proofs.FaultLaws.{then-yes, then-zero, fault-zero, fault-yes, then-no}
+use Rattle.format.proofs.FaultLaws.{then-yes, then-zero, fault-zero, fault-yes, then-no, fault-no}
 
 -- ---- one section
 
@@ -43,7 +43,9 @@ module _ (cf size ct : ℕ) (b : List ℕ) where
   -- count missing
   pub section-missing : length b < 4 → sectionFault cf size ct b ≡ 21
   unfolding sectionFault
-  section-missing h = ap (λ (t : Bool). fault 21 t then cf then fault 21 (leb size (length (drop 4 b))) then ct) (lt-leb 4 (length b) h)
+  section-missing h =
+      let e : fault 21 (leb 4 (length b)) ≡ 21 = ap (fault 21) (lt-leb 4 (length b) h) in
+      then-no (fault 21 (leb 4 (length b))) _ (omega (arith, e)) ∙ e
 
   module _ (h4 : 4 ≤ length b) where
     counted : (x : ℕ) → (fault 21 (leb 4 (length b)) then x) ≡ x
@@ -167,6 +169,29 @@ unfolding limits
 limits-nodes trits e = leb-true (nodeCount trits) 30000 (both-true _ _ e .0)
 
 -- ---- section 1
+
+-- one of five tests fails
+one-of-five : (a b c d e : Bool) (x : ℕ) → ((a ≡ true) × (b ≡ true) × (c ≡ true) × (d ≡ true) × (e ≡ true) → ⊥)
+    → (fault 23 a then fault 23 b then fault 23 c then fault 23 d then fault 23 e then x) ≡ 23
+one-of-five false b c d e x h = refl
+one-of-five true false c d e x h = refl
+one-of-five true true false d e x h = refl
+one-of-five true true true false e x h = refl
+one-of-five true true true true false x h = refl
+one-of-five true true true true true x h = absurd (h (refl, refl, refl, refl, refl))
+
+pub contents-1-gives : (L : ℕ) (bs : List ℕ) → Contents1Gives L bs
+unfolding contentsFault1
+contents-1-gives L bs =
+    let t : List ℕ = untrytes L bs in
+    let pass : (b : Bool) (x : ℕ) → b ≡ true → (fault 23 b then x) ≡ x = λ b x e. then-yes (fault 23 b) x (fault-yes 23 b e) in
+    record {
+      rule-broken = λ h. one-of-five (bytesLow bs) (padded L bs) (rootsFirst t) (balanced t) (grown t) (fault 22 (limits t))
+          (λ r. h (record { is-low = r .0; is-padded = r .1; roots-first = r .2; is-balanced = r .3; is-grown = r .4 }));
+      limit-passed = λ r h.
+          pass (bytesLow bs) _ (r .is-low) ∙ pass (padded L bs) _ (r .is-padded) ∙ pass (rootsFirst t) _ (r .roots-first) ∙ pass (balanced t) _ (r .is-balanced)
+          ∙ pass (grown t) _ (r .is-grown) ∙ fault-no 22 (limits t) h;
+    }
 
 pub untrytes-trytes : (trits : List ℕ) → Below 3 trits → untrytes (length trits) (trytes trits) ≡ trits
 unfolding untrytes trytes

@@ -14,37 +14,14 @@ use Rattle.format.specs.Lists.{same, up, countIn, Below}
 use Rattle.format.specs.Trits.{untrytes}
 use Rattle.format.specs.Image.{leNumber, bytes, fromBytes, Section, given}
 use Rattle.format.specs.Faults.{fault, _then_}
-use Rattle.format.specs.Proper.{countOf, contentsOf, restOf, checkGiven, size1, size2, contentsFault1, checkImage, bytesLow, padded, rootsFirst, balanced, grown, limits, shadowsSeen, sectionFault, fault1, fault2, tritsOf, after1, shadowsOf, after2, ImageCode, Contents1Gives, givenFault, CheckerGives}
+use Rattle.format.specs.Proper.{countOf, contentsOf, restOf, checkGiven, size1, size2, contentsFault1, checkImage, bytesLow, padded, rootsFirst, balanced, grown, limits, shadowsSeen, sectionFault, fault1, fault2, tritsOf, after1, shadowsOf, after2, ImageCode, givenFault, CheckerGives}
 use Rattle.format.proofs.Laws.{same-eq, same-refl}
 use Rattle.format.proofs.Digits.{gather-at, length-gather, up-mul}
-use Rattle.format.proofs.CheckLaws.{bytes-fromBytes, section-count, section-gives}
+use Rattle.format.proofs.CheckLaws.{bytes-fromBytes, section-count, section-gives, contents-1-gives}
 use Rattle.format.proofs.ImageReads.{number-at}
 use Rattle.format.proofs.FaultLaws.{then-in, fault-in, then-yes, then-no, fault-yes, fault-no}
 
 -- ---- the order of the checker's faults
-
--- one of five tests fails
-one-of-five : (a b c d e : Bool) (x : ℕ) → ((a ≡ true) × (b ≡ true) × (c ≡ true) × (d ≡ true) × (e ≡ true) → ⊥)
-    → (fault 23 a then fault 23 b then fault 23 c then fault 23 d then fault 23 e then x) ≡ 23
-one-of-five false b c d e x h = refl
-one-of-five true false c d e x h = refl
-one-of-five true true false d e x h = refl
-one-of-five true true true false e x h = refl
-one-of-five true true true true false x h = refl
-one-of-five true true true true true x h = absurd (h (refl, refl, refl, refl, refl))
-
-contents-1-gives : (L : ℕ) (bs : List ℕ) → Contents1Gives L bs
-unfolding contentsFault1
-contents-1-gives L bs =
-    let t : List ℕ = untrytes L bs in
-    let pass : (b : Bool) (x : ℕ) → b ≡ true → (fault 23 b then x) ≡ x = λ b x e. then-yes (fault 23 b) x (fault-yes 23 b e) in
-    record {
-      rule-broken = λ h. one-of-five (bytesLow bs) (padded L bs) (rootsFirst t) (balanced t) (grown t) (fault 22 (limits t))
-          (λ r. h (record { is-low = r .0; is-padded = r .1; roots-first = r .2; is-balanced = r .3; is-grown = r .4 }));
-      limit-passed = λ r h.
-          pass (bytesLow bs) _ (r .is-low) ∙ pass (padded L bs) _ (r .is-padded) ∙ pass (rootsFirst t) _ (r .roots-first) ∙ pass (balanced t) _ (r .is-balanced)
-          ∙ pass (grown t) _ (r .is-grown) ∙ fault-no 22 (limits t) h;
-    }
 
 pub checker-gives : (b : List ℕ) → CheckerGives b
 unfolding checkImage fault1 fault2 givenFault checkGiven
