@@ -241,6 +241,17 @@ rank-count t xs p =
     let e : countIn t (take p xs ++ drop p xs) ≡ countIn t xs = ap (countIn t) (take-append-drop p xs) in
     omega (arith, count-append t (take p xs) (drop p xs))
 
+-- an element that a key keeps stands behind those of the same key before it
+pub keep-at : (key : ℕ → ℕ) (v : ℕ) (xs : List ℕ) (c : ℕ) → c < length xs → key (getD xs c 0) ≡ v → getD (keep (λ x. eqb (key x) v) xs) (rank v (map key xs) c) 0 ≡ getD xs c 0
+unfolding rank
+keep-at key v [] c h e = absurd (not-suc-le-zero h)
+keep-at key v (x ∷ xs) zero h e = rw (eq-eqb (key x) v e)
+keep-at key v (x ∷ xs) (suc c) h e = skip (eqb (key x) v) (keep (λ x. eqb (key x) v) xs) (rank v (map key xs) c) ∙ keep-at key v xs c (le-of-suc-le-suc h) e
+  where
+    skip : (b : Bool) (ys : List ℕ) (r : ℕ) → getD (consIf b x ys) (bit b + r) 0 ≡ getD ys r 0
+    skip true ys r = ap (λ (k : ℕ). getD (x ∷ ys) k 0) (one-add r)
+    skip false ys r = ap (λ (k : ℕ). getD ys k 0) (zero-add r)
+
 -- ---- a node, by its test
 
 pub isNode-node : (n v : ℕ) → isNode n v ≡ true → Node n v

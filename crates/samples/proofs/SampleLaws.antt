@@ -4,23 +4,23 @@ use native.Mathlib.Nat.{zero-add, add-zero, sub-zero, mul-assoc, mul-comm, mul-a
 use native.Mathlib.Omega.{arith}
 use native.Mathlib.Numerals.{add-one}
 use mathlib.Core.Path.{_≡_, refl, sym, ap, ap₂, _∙_, subst}
-use mathlib.Core.List.{List, [], _∷_, _++_, append-nil, append-assoc, map, map-append}
+use mathlib.Core.List.{List, [], _∷_, _++_, append-nil, map, map-append}
 use lib.Dec.{lit<, lit≤}
-use lib.ListN.{length, getD, take, drop, length-append}
-use lib.Seq.{take-all, take-append-seam, ext-getD}
+use lib.ListN.{length, getD, take, drop}
+use lib.Seq.{ext-getD}
 use Rattle.format.specs.Lists.{run, each, join, lowDigits, spread, up}
 use Rattle.format.specs.Trits.{rank, trytes, tryteCount}
 use Rattle.format.specs.Image.{leBytes, bytes, pair, pairs, lastMultiple}
 use Rattle.format.proofs.Laws.{rank-le, run-snoc, join-append, length-run}
-use Rattle.format.proofs.Digits.{gather-at, horner-lt, below-block, length-block, length-blocks, lt-up}
+use Rattle.format.proofs.Digits.{gather-at, horner-lt, below-block, length-digits, length-block, length-blocks, lt-up}
 use Rattle.format.proofs.Select.{rank-tryte}
 use Rattle.format.proofs.Sizes.{length-trytes, length-bytes, length-pairs}
 use Rattle.format.proofs.ImageReads.{pairs-at}
 use Rattle.little.specs.Put.{putAt}
-use Rattle.little.proofs.Laws.{put-next}
+use Rattle.little.proofs.Laws.{put-more, put-same, put-before, bytes-append}
 use Rattle.samples.specs.declared.Counts.{Counts}
-use Rattle.samples.specs.Lent.{Rule, TritsIn}
-use Rattle.samples.specs.Samples.{Plan, Counted, Counting, Step, Begun, PairPut}
+use Rattle.samples.specs.Lent.{Rule, TritsIn, TritsAt}
+use Rattle.samples.specs.Samples.{Plan, Counted, Counting, Step}
 
 -- ---- one tryte
 
@@ -56,6 +56,10 @@ module _ {trits bs : List ℕ} (T : TritsIn trits bs) (i : ℕ) (l : 5 * i + 5 �
       let few : tryteCount 0 x 5 ≤ 5 = rank-le 0 (lowDigits 3 5 x) 5 in
       let on : (t : ℕ) → rank t trits (5 * (i + 1)) ≡ rank t trits (5 * i) + tryteCount t x 5 = rw ex rank-on in
       record { zeros-are = omega (arith, rule x h, on 0, c .zeros-are); ones-are = omega (arith, rule x h, on 1, c .ones-are) }
+
+-- what is put from `at` on leaves section 1 as it was
+pub trits-stay : {trits old image : List ℕ} {a e at : ℕ} (vs : List ℕ) → TritsAt trits old a e at → at ≤ length old → image ≡ putAt old at vs → TritsIn trits (take (e - a) (drop a image))
+trits-stay {old = old} {a = a} {e} {at} vs T fits put = rw (put, put-before a (e - a) at old vs (omega (arith, T .rises, T .before)) fits) (T .trits-in)
 
 -- ---- one sample
 
@@ -120,62 +124,54 @@ length-pairsTo : (step : ℕ) (from : ℕ → ℕ) (trits : List ℕ) (q : ℕ) 
 unfolding pairsTo pair
 length-pairsTo step from trits q = length-blocks 2 (λ q. pair trits from (step * q)) (λ q. refl) (run 0 q) ∙ ap (λ (k : ℕ). 2 * k) (length-run 0 q)
 
--- one number more
-begun-next : {w at : ℕ} {xs l l′ : List ℕ} (x : ℕ) → Begun w xs l → l′ ≡ putAt l at (leBytes w x) → at ≡ w * length xs → Begun w (xs ++ (x ∷ [])) l′
-begun-next {w} {at} {xs} {l} x b e ea = record { rest = drop w (b .rest); begins = e ∙ put-next w x at l [] xs (b .rest) (b .begins) (omega arith) }
+-- zeros put, then ones behind them
+pub pair-put : (w at zeros ones : ℕ) (l : List ℕ) {m r : List ℕ} → at ≤ length l → m ≡ putAt l at (leBytes w zeros) → r ≡ putAt m (at + w) (leBytes w ones)
+    → r ≡ putAt l at (bytes w (zeros ∷ ones ∷ []))
+unfolding bytes spread
+pair-put w at zeros ones l h ez eo = rw append-nil (put-more at (at + w) l (leBytes w zeros) (leBytes w ones) h (rw length-digits) ez eo)
 
-pub begun-pair : {w : ℕ} (q : ℕ) (c : Counts) {l m r : List ℕ} → m ≡ putAt l (2 * w * q) (leBytes w (c .zeros)) → r ≡ putAt m (2 * w * q + w) (leBytes w (c .ones))
-    → PairPut w q c l r
-begun-pair {w} q c ez eo xs n b =
-    let e : w * length xs ≡ 2 * w * q = rw (n, mul-comm 2 w, mul-assoc) in
-    rw append-assoc at (begun-next {at = 2 * w * q + w} (c .ones) (begun-next (c .zeros) b ez (sym e)) eo (simp (length-append, mul-add, mul-one, e)))
-
-begun-all : {w : ℕ} {xs l : List ℕ} → Begun w xs l → length l ≡ w * length xs → l ≡ bytes w xs
-begun-all {w} {xs} {l} b n =
-    let e : length (bytes w xs) ≡ length l = length-bytes w xs ∙ sym n in
-    sym (take-all (length (bytes w xs)) l (omega arith)) ∙ rw (b .begins) (take-append-seam (bytes w xs) (b .rest))
-
--- the samples up to q are put
-pub record Sampled (trits : List ℕ) (step fan width q : ℕ) (c : Counts) (out : List ℕ) : Type 0 where
+-- the samples before q are put over the old image, and c has the counts at sample q
+pub record Sampled (trits : List ℕ) (step fan width q : ℕ) (c : Counts) (at : ℕ) (old image : List ℕ) : Type 0 where
   pub counting : Counting trits step fan q c
-  pub begun : Begun width (pairsTo step (lastMultiple (step * fan)) trits (q + 1)) out
+  pub done : image ≡ putAt old at (bytes width (pairsTo step (lastMultiple (step * fan)) trits q))
 
-module _ {step fan width L : ℕ} {out : List ℕ} (P : Plan step fan width L out) where
+module _ {step fan width L at : ℕ} {old : List ℕ} (P : Plan step fan width L at old) where
   -- sample q lies in the section
-  pub sample-room : (q : ℕ) → q ≤ L / step → 2 * width * q + 2 * width ≤ length out
+  pub sample-room : (q : ℕ) → q ≤ L / step → at + 2 * width * q + 2 * width ≤ length old
   sample-room q h =
       let w : ℕ = 2 * width in
-      rw (P .room, ← mul-assoc, mul-comm width 2) (omega (arith, mul-le-mul-left w h, mul-add w (L / step) 1, mul-one w))
+      let e : width * (2 * (L / step + 1)) ≡ w * (L / step + 1) = rw (mul-comm 2 width, mul-assoc) in
+      omega (arith, P .room, mul-le-mul-left w h, mul-add w (L / step) 1, mul-one w)
 
-  module _ {trits : List ℕ} where
-    sampled : {q : ℕ} {c : Counts} {l l′ : List ℕ} → Counting trits step fan q c → Begun width (pairsTo step (lastMultiple (step * fan)) trits q) l
-        → PairPut width q c l l′ → Sampled trits step fan width q c l′
-    sampled {q} C b put =
+  pub sampled-none : {trits : List ℕ} → Sampled trits step fan width 0 none at old old
+  unfolding pairsTo bytes spread
+  sampled-none = record { counting = counting-anew (P .fans) (zero-mod fan); done = sym (put-same at 0 old (omega (arith, P .room))) }
+
+  module _ {trits : List ℕ} {q : ℕ} {c : Counts} {image new : List ℕ} (S : Sampled trits step fan width q c at old image)
+      (put : new ≡ putAt image (at + 2 * width * q) (bytes width (c .zeros ∷ c .ones ∷ []))) where
+    more : new ≡ putAt old at (bytes width (pairsTo step (lastMultiple (step * fan)) trits (q + 1)))
+    more =
         let f : ℕ → ℕ = lastMultiple (step * fan) in
-        record { counting = C; begun = rw (pairsTo-more step f trits q, pair-is C (P .steps)) (put (pairsTo step f trits q) (length-pairsTo step f trits q) b) }
+        let seam : at + 2 * width * q ≡ at + length (bytes width (pairsTo step f trits q)) = rw (length-bytes, length-pairsTo, mul-comm 2 width, mul-assoc) in
+        rw (pairsTo-more step f trits q, pair-is (S .counting) (P .steps), bytes-append) (put-more at _ old _ _ (omega (arith, P .room)) seam (S .done) put)
 
-    pub sampled-first : {l : List ℕ} → PairPut width 0 none out l → Sampled trits step fan width 0 none l
-    unfolding pairsTo bytes spread
-    sampled-first put = sampled (counting-anew (P .fans) (zero-mod fan)) (record { rest = out; begins = refl }) put
+    -- a whole step follows
+    pub sampled-step : {a e : ℕ} → TritsAt trits old a e at → length trits ≡ L → q < L / step → Step trits (take (e - a) (drop a new)) (step / 5) fan q c
+    sampled-step T n h =
+        let m : ℕ = step / 5 in
+        let s : 5 * (m * q + m) ≡ step * q + step = rw (mul-add 5, ← mul-assoc, P .trytewise) in
+        record {
+          trits-in = trits-stay _ T (omega (arith, P .room)) more;
+          counting = rw (P .trytewise) (S .counting);
+          inside = omega (arith, mul-le-mul-left step h, mul-suc step q, mul-div-le L step);
+        }
 
-    module _ {q : ℕ} {c : Counts} {l : List ℕ} (S : Sampled trits step fan width q c l) where
-      -- a whole step follows
-      pub sampled-step : {bs : List ℕ} → TritsIn trits bs → length trits ≡ L → q < L / step → Step trits bs (step / 5) fan q c
-      sampled-step T n h =
-          let m : ℕ = step / 5 in
-          let e : 5 * (m * q + m) ≡ step * q + step = rw (mul-add 5, ← mul-assoc, P .trytewise) in
-          record {
-            trits-in = T;
-            counting = rw (P .trytewise) (S .counting);
-            inside = omega (arith, mul-le-mul-left step h, mul-suc step q, mul-div-le L step);
-          }
+    pub sampled-next : {d : Counts} → Counting trits (5 * (step / 5)) fan (q + 1) d → Sampled trits step fan width (q + 1) d at old new
+    sampled-next C = record { counting = rw (P .trytewise) at C; done = more }
 
-      pub sampled-next : {d : Counts} {l′ : List ℕ} → Counting trits (5 * (step / 5)) fan (q + 1) d → PairPut width (q + 1) d l l′ → Sampled trits step fan width (q + 1) d l′
-      sampled-next C put = sampled (rw (P .trytewise) at C) (S .begun) put
-
-      pub sampled-all : length trits ≡ L → q ≡ L / step → length l ≡ length out → l ≡ bytes width (pairs step (lastMultiple (step * fan)) trits)
-      unfolding pairs pairsTo
-      sampled-all n e s = begun-all (rw (e, ← n) at (S .begun)) (s ∙ P .room ∙ rw (length-pairs step (lastMultiple (step * fan)) trits, n))
+    pub sampled-all : length trits ≡ L → q ≡ L / step → new ≡ putAt old at (bytes width (pairs step (lastMultiple (step * fan)) trits))
+    unfolding pairs pairsTo
+    sampled-all n e = rw (n, ← e) more
 
 -- section 6 counts from the first place: from the last multiple of 131,450, which no place up to 125,536 reaches
 pub far-pairs : (trits : List ℕ) → length trits ≤ 125536 → pairs 65725 (lastMultiple (65725 * 2)) trits ≡ pairs 65725 (λ p. 0) trits

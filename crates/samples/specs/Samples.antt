@@ -1,10 +1,9 @@
 -- What a section of samples is written by, and how far its writer has come. Assumes nothing.
 use Prim.Native.Nat.{ℕ, _+_, _-_, _*_, _/_, _%_, _≤_, _<_}
 use mathlib.Core.Path.{_≡_}
-use mathlib.Core.List.{List, [], _∷_, _++_}
+use mathlib.Core.List.{List}
 use lib.ListN.{length}
 use Rattle.format.specs.Trits.{rank}
-use Rattle.format.specs.Image.{bytes}
 use Rattle.samples.specs.declared.Counts.{Counts}
 use Rattle.samples.specs.Lent.{TritsIn}
 
@@ -12,13 +11,13 @@ use Rattle.samples.specs.Lent.{TritsIn}
 abbrev pub Width : ℕ → Type 0
 Width w = (w ≡ 4 → ⊥) → (w ≡ 2 → ⊥) → w ≡ 1
 
--- a section of samples: a step of whole trytes, so many steps until counting begins anew, so many bytes a number
-pub record Plan (step fan width L : ℕ) (out : List ℕ) : Type 0 where
+-- a section of samples: a step of whole trytes, so many steps until counting begins anew, so many bytes a number, and room from `at` on
+pub record Plan (step fan width L at : ℕ) (image : List ℕ) : Type 0 where
   pub trytewise : 5 * (step / 5) ≡ step
   pub steps : 0 < step
   pub fans : 0 < fan
   pub widths : Width width
-  pub room : length out ≡ width * (2 * (L / step + 1))
+  pub room : at + width * (2 * (L / step + 1)) ≤ length image
 
 -- so many zeros and ones stand from place `start` to before place p
 pub record Counted (trits : List ℕ) (start p zeros ones : ℕ) : Type 0 where
@@ -36,12 +35,3 @@ pub record Step (trits bs : List ℕ) (many fan q : ℕ) (c : Counts) : Type 0 w
   pub trits-in : TritsIn trits bs
   pub counting : Counting trits (5 * many) fan q c
   pub inside : 5 * (many * q + many) ≤ length trits
-
--- l begins with the numbers xs, w bytes each
-pub record Begun (w : ℕ) (xs l : List ℕ) : Type 0 where
-  pub rest : List ℕ
-  pub begins : l ≡ bytes w xs ++ rest
-
--- the pair of sample q is put behind the pairs before it
-abbrev pub PairPut : ℕ → ℕ → Counts → List ℕ → List ℕ → Type 0
-PairPut w q c l l′ = (xs : List ℕ) → length xs ≡ 2 * q → Begun w xs l → Begun w (xs ++ c .zeros ∷ c .ones ∷ []) l′
