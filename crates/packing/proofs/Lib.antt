@@ -1,0 +1,11 @@
+-- The laws of this crate's functions, by subject.
+pub mod ScanLaws
+pub mod NumberLaws
+pub mod BitLaws
+pub mod OverLaws
+pub mod HeldLaws
+pub mod RunLaws
+pub mod TurnLaws
+pub mod StreamLaws
+pub mod SectionLaws
+pub mod PackLaws
