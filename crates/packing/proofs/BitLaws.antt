@@ -44,7 +44,7 @@ pub sets : (w b : ℕ) → b < 64 → Marked w b (bitOr w ((1 * 2 ^ b) % 2 ^ 64)
 sets w b h =
     let one : (1 * 2 ^ b) % 2 ^ 64 ≡ 2 ^ b = shl-exact 1 b 64 (lit< tt) (omega arith) ∙ one-mul (2 ^ b) in
     record {
-      set = rw (one, or-bit, pow-same) (or-one (bitOf w b) (mod-lt (w / 2 ^ b) (lit< tt)));
+      now-set = rw (one, or-bit, pow-same) (or-one (bitOf w b) (mod-lt (w / 2 ^ b) (lit< tt)));
       others = λ j n. rw (one, or-bit, pow-other b j n) (or-zero-r (bitOf w j));
     }
 
@@ -86,6 +86,6 @@ module _ (ws l : List ℕ) (x : ℕ) (small : x < 30016) (m : Marks ws l) where
 
     pub marks-more : numberIn x l ≡ 0 → Marks (set ws (x / 64) r) (l ++ x ∷ [])
     marks-more new v h = elim (ℕ-discrete v x) [
-      | yes e ↦ rw (e, number-new x l [] new, getD-set-same ws (x / 64) r 0 inside) (now .set)
+      | yes e ↦ rw (e, number-new x l [] new, getD-set-same ws (x / 64) r 0 inside) (now .now-set)
       | no e ↦ rw (number-other v x l e) (mark-other v e ∙ m v h)
     ]

@@ -7,5 +7,5 @@ bitOf w j = w / 2 ^ j % 2
 
 -- w′ is w with bit b set
 pub record Marked (w b w′ : ℕ) : Type 0 where
-  pub set : bitOf w′ b ≡ 1
+  pub now-set : bitOf w′ b ≡ 1
   pub others : (j : ℕ) → (j ≡ b → ⊥) → bitOf w′ j ≡ bitOf w j
