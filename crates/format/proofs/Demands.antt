@@ -13,8 +13,8 @@ use Rattle.format.specs.Lists.{All, Below, run, oneTo, sumOf, nodeAt, ov
 use Rattle.format.specs.Table.{Graph, faulty, graph, nodes, edges, Node, words, readTable, WellFormed, WithinLimits, FirstFault}
 use Rattle.format.specs.Level.{walk, levelOrder, Reach, Counts}
 use Rattle.format.specs.Trits.{rank, select, trytes, tryteCount, tryteTable}
-use Rattle.format.specs.Image.{nodeCount, group, grouped, starts, marks, markWords, markSamples, pairs, lastMultiple, image, Sized, ReadBack}
-use Rattle.format.specs.Packing.{imageOf, Accepted, RoomEnough, bytesOf, cleared, packLeaves, packOutcome, Kept}
+use Rattle.format.specs.Image.{nodeCount, group, grouped, starts, marks, markWords, markSamples, pairs, lastMultiple, image, SectionSizes, ReadBack}
+use Rattle.format.specs.Packing.{imageOf, Accepted, RoomEnough, bytesOf, cleared, packLeaves, packOutcome, BuffersKept}
 use Rattle.format.specs.Proper.{CheckerGives, checkImage, tritsOf, shadowsOf, ProperTrits, ImageCode}
 use Rattle.format.specs.Edges.{operandOf, userOf, operandEdges, useEdges, Edge}
 use Rattle.format.specs.Question.{answer, says, Beyond, Kinds}
@@ -88,7 +88,7 @@ module _ (table order work buffer : List ℕ) where
   packing-only = outcomes.pack-room table order work buffer
 
   -- no buffer changes its length, and what was lent in its widths is left in them
-  pub packing-kept : Kept order work buffer (packOutcome table order work buffer)
+  pub packing-kept : BuffersKept order work buffer (packOutcome table order work buffer)
   packing-kept = promises.packing-kept table order work buffer
 
 -- "The image checker goes section by section: count missing (21), count wrong (for section 1: 22 if too large, 23 if 0), contents missing (21), contents
@@ -154,7 +154,7 @@ module _ (table : List ℕ) (g : Graph) (a : Accepted table g) where
   trit-counts = (order.counts g (accepting.packable table g a), accepting.proper-table table g a .length-high)
 
   -- each count says how long its contents are, and no entry is cut to its width: sections 2 to 9, read back, are what was written
-  pub sections-read : Sized trits H × ReadBack trits H
+  pub sections-read : SectionSizes trits H × ReadBack trits H
   sections-read = (widths.sections-counted trits H (accepting.proper-table table g a), widths.sections-back trits H (accepting.proper-table table g a))
 
   -- and the image is read as the trits and H that were packed

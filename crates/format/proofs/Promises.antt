@@ -17,7 +17,7 @@ use Rattle.format.specs.Image.{nodeCount, image}
 use Rattle.format.specs.Proper.{checkImage, tritsOf, shadowsOf, ProperTrits}
 use Rattle.format.specs.Renumbering.{renumbered, Renumbering}
 use Rattle.format.specs.Unpack.{UnpackOutcome, unpack, unpackOutcome}
-use Rattle.format.specs.Packing.{imageOf, Accepted, PackOutcome, RoomEnough, bytesOf, cleared, packOutcome, Kept}
+use Rattle.format.specs.Packing.{imageOf, Accepted, PackOutcome, RoomEnough, bytesOf, cleared, packOutcome, BuffersKept}
 use Rattle.format.specs.Answers.{done, stops, Numbers}
 use Rattle.format.proofs.Accepting.{reads-as, all-each, proper-table, packable, scanned-accepted, scanned-image}
 use Rattle.format.proofs.Reached.{reached-all}
@@ -84,9 +84,9 @@ below-cleared b g work p h = below-over b (replicate (3 * nodes g) 0) work (zero
     zeros : (n : ℕ) → Below b (replicate n 0)
     zeros n i l = subst (λ (x : ℕ). x < b) (sym (getD-replicate n i 0 0 (subst (λ (k : ℕ). i < k) (length-replicate {A = ℕ} n 0) l))) p
 
-pub packing-kept : (table order work buffer : List ℕ) → Kept order work buffer (packOutcome table order work buffer)
+pub packing-kept : (table order work buffer : List ℕ) → BuffersKept order work buffer (packOutcome table order work buffer)
 packing-kept table order work buffer =
-    let K : PackOutcome → Type 0 = Kept order work buffer in
+    let K : PackOutcome → Type 0 = BuffersKept order work buffer in
     let early : (n : Numbers) → K (record { returned = n; order = order; work = work; image = buffer }) =
     λ n. record { order-length = refl; work-length = refl; image-length = refl; order-fits = λ h. h; work-fits = λ h. h; image-fits = λ h. h } in
     let late : (n : Numbers) (g : Graph) → 3 * nodes g ≤ length work → K (record { returned = n; order = order; work = cleared g work; image = buffer }) = λ n g w.

@@ -8,7 +8,7 @@ use lib.Dec.{lit<}
 use lib.ListN.{length, getD, take, drop}
 use Rattle.format.specs.Lists.{All, Below, run, sumOf, horner}
 use Rattle.format.specs.Trits.{rank, trytes, tryteCount}
-use Rattle.format.specs.Image.{leBytes, bytes, nodeCount, markWords, starts, grouped, pairs, lastMultiple, markSamples, Section, section1, section2, section3, section4, section5, section6, section7, section8, section9, given, written, image, ReadBack, Sized}
+use Rattle.format.specs.Image.{leBytes, bytes, nodeCount, markWords, starts, grouped, pairs, lastMultiple, markSamples, Section, section1, section2, section3, section4, section5, section6, section7, section8, section9, given, written, image, ReadBack, SectionSizes}
 use Rattle.format.specs.Proper.{ProperTrits}
 use Rattle.format.proofs.Digits.{below-digits, below-spread, gather-at, below-block, length-block, horner-lt}
 use Rattle.format.proofs.Select.{rank-samples, rank-tryte}
@@ -32,7 +32,7 @@ module _ (trits H : List ℕ) (p : ProperTrits trits H) where
   }
 
   -- each section's contents are as long as its count says
-  pub sections-counted : Sized trits H
+  pub sections-counted : SectionSizes trits H
   unfolding section1 section2 section3 section4 section5 section6 section7 section8 section9
   sections-counted = record {
     count-3 = refl;

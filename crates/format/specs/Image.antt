@@ -152,7 +152,7 @@ pub record ReadBack (trits H : List ℕ) : Type 0 where
   pub back9 : fromBytes 2 (section9 trits H .contents) ≡ markSamples trits H
 
 -- the counts of sections 1 to 9, and each section's contents as long as its count says
-pub record Sized (trits H : List ℕ) : Type 0 where
+pub record SectionSizes (trits H : List ℕ) : Type 0 where
   pub count-3 : section3 trits H .entries ≡ nodeCount trits
   pub size-1 : length (section1 trits H .contents) ≡ up (section1 trits H .entries) 5
   pub size-2 : length (section2 trits H .contents) ≡ 2 * section2 trits H .entries

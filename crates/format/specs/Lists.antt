@@ -30,6 +30,7 @@ abbrev pub every {ℓ} : {A : Type ℓ} → (A → Bool) → List A → Bool
 every f [] = true
 every f (x ∷ xs) = f x && every f xs
 
+-- x in front, where the test passes
 abbrev pub consIf {ℓ} : {A : Type ℓ} → Bool → A → List A → List A
 consIf true x xs = x ∷ xs
 consIf false x xs = xs

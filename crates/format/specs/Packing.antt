@@ -72,7 +72,7 @@ pub record RoomEnough (table order work buffer : List ℕ) : Type 0 where
   pub image-room : length (imageOf of) ≤ length buffer
 
 -- no buffer changes its length, and every word and byte fits its width
-pub record Kept (order work image : List ℕ) (o : PackOutcome) : Type 0 where
+pub record BuffersKept (order work image : List ℕ) (o : PackOutcome) : Type 0 where
   pub order-length : length (o .order) ≡ length order
   pub work-length : length (o .work) ≡ length work
   pub image-length : length (o .image) ≡ length image

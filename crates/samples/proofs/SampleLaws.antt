@@ -20,7 +20,7 @@ use Rattle.little.specs.Put.{putAt}
 use Rattle.little.proofs.Laws.{put-more, put-same, put-before, bytes-append}
 use Rattle.samples.specs.declared.Counts.{Counts}
 use Rattle.samples.specs.Lent.{Rule, TritsIn, TritsAt}
-use Rattle.samples.specs.Samples.{Plan, Counted, Counting, Step}
+use Rattle.samples.specs.Samples.{Plan, CountedFrom, Counting, Step}
 
 -- ---- one tryte
 
@@ -38,7 +38,7 @@ module _ {trits bs : List ℕ} (T : TritsIn trits bs) (i : ℕ) (l : 5 * i + 5 �
       rw (T .trytes-are) (omega (arith, gather-at 3 5 trits i held, horner-lt 3 5 b (lit< tt) (below-block 3 5 (lit< tt) (lit< tt) trits (T .threes) i) (length-block 3 5 (lit< tt) (lit< tt) trits i)))
 
   -- it can be looked up, and the counts are small
-  pub tryte-room : {start zeros ones : ℕ} → Counted trits start (5 * i) zeros ones → (i < length bs) × (getD bs i 0 < 243) × (zeros ≤ 125536) × (ones ≤ 125536)
+  pub tryte-room : {start zeros ones : ℕ} → CountedFrom trits start (5 * i) zeros ones → (i < length bs) × (getD bs i 0 < 243) × (zeros ≤ 125536) × (ones ≤ 125536)
   tryte-room c = (inside, low, omega (arith, T .few, c .zeros-are, rank-le 0 trits (5 * i)), omega (arith, T .few, c .ones-are, rank-le 1 trits (5 * i)))
 
   -- rank grows by the tryte's count
@@ -49,7 +49,7 @@ module _ {trits bs : List ℕ} (T : TritsIn trits bs) (i : ℕ) (l : 5 * i + 5 �
 
   -- a table entry's zeros and ones
   pub count-on : (table : List ℕ) → Rule table → {x e start zeros ones : ℕ} → x ≡ getD bs i 0 → e ≡ getD table x 0
-      → Counted trits start (5 * i) zeros ones → Counted trits start (5 * (i + 1)) (zeros + e % 8) (ones + e / 8)
+      → CountedFrom trits start (5 * i) zeros ones → CountedFrom trits start (5 * (i + 1)) (zeros + e % 8) (ones + e / 8)
   unfolding tryteCount rank
   count-on table rule {x} ex ee c =
       let h : x < 243 = omega (arith, low) in
@@ -84,7 +84,7 @@ module _ {trits : List ℕ} {step fan q : ℕ} {c : Counts} (C : Counting trits 
   pub steps-full : c .steps + 1 ≡ fan → (q + 1) % fan ≡ 0
   steps-full e = next-steps ∙ rw e (mod-self fan)
 
-  counting-on : {zeros ones : ℕ} → (c .steps + 1 ≡ fan → ⊥) → Counted trits (step * (q - c .steps)) (step * (q + 1)) zeros ones
+  counting-on : {zeros ones : ℕ} → (c .steps + 1 ≡ fan → ⊥) → CountedFrom trits (step * (q - c .steps)) (step * (q + 1)) zeros ones
       → Counting trits step fan (q + 1) (record { zeros = zeros; ones = ones; steps = c .steps + 1 })
   counting-on n h =
       let lt : c .steps + 1 < fan = omega (arith, C .below) in
@@ -100,10 +100,10 @@ module _ {trits : List ℕ} {step fan q : ℕ} {c : Counts} (C : Counting trits 
 
 -- a step by its trytes
 module _ {trits bs : List ℕ} {many fan q : ℕ} {c : Counts} (S : Step trits bs many fan q c) where
-  pub step-begins : Counted trits (5 * many * (q - c .steps)) (5 * (many * q)) (c .zeros) (c .ones)
+  pub step-begins : CountedFrom trits (5 * many * (q - c .steps)) (5 * (many * q)) (c .zeros) (c .ones)
   step-begins = rw (← mul-assoc 5 many q) (S .counting .counted)
 
-  pub step-ends : {i zeros ones : ℕ} → (c .steps + 1 ≡ fan → ⊥) → i ≡ many * q + many → Counted trits (5 * many * (q - c .steps)) (5 * i) zeros ones
+  pub step-ends : {i zeros ones : ℕ} → (c .steps + 1 ≡ fan → ⊥) → i ≡ many * q + many → CountedFrom trits (5 * many * (q - c .steps)) (5 * i) zeros ones
       → Counting trits (5 * many) fan (q + 1) (record { zeros = zeros; ones = ones; steps = c .steps + 1 })
   step-ends {i} n ei h =
       let e : 5 * many * (q + 1) ≡ 5 * i = rw (ei, mul-assoc, mul-add, mul-one) in

@@ -20,7 +20,7 @@ pub record Plan (step fan width L at : ℕ) (image : List ℕ) : Type 0 where
   pub room : at + width * (2 * (L / step + 1)) ≤ length image
 
 -- so many zeros and ones stand from place `start` to before place p
-pub record Counted (trits : List ℕ) (start p zeros ones : ℕ) : Type 0 where
+pub record CountedFrom (trits : List ℕ) (start p zeros ones : ℕ) : Type 0 where
   pub zeros-are : rank 0 trits p ≡ rank 0 trits start + zeros
   pub ones-are : rank 1 trits p ≡ rank 1 trits start + ones
 
@@ -28,7 +28,7 @@ pub record Counted (trits : List ℕ) (start p zeros ones : ℕ) : Type 0 where
 pub record Counting (trits : List ℕ) (step fan q : ℕ) (c : Counts) : Type 0 where
   pub steps-are : c .steps ≡ q % fan
   pub below : c .steps < fan
-  pub counted : Counted trits (step * (q - c .steps)) (step * q) (c .zeros) (c .ones)
+  pub counted : CountedFrom trits (step * (q - c .steps)) (step * q) (c .zeros) (c .ones)
 
 -- c holds the counts at sample q, and a whole step of `many` trytes follows
 pub record Step (trits bs : List ℕ) (many fan q : ℕ) (c : Counts) : Type 0 where
