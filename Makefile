@@ -1,9 +1,9 @@
-# `make` runs the main job: until there is an entry to run, it proves the crates. `make test` is the gate.
+# `make` runs the main job: until an entry is exported, it proves the crates. `make test` is the gate.
 .PHONY: all test
 
 all:
 	rt check
-	@echo 'The definitions and their theorems are proved. There is no entry to run yet.'
+	@echo 'The crates are proved, pack among them. No entry is exported yet.'
 
 test:
 	.ci/run

@@ -9,3 +9,4 @@ pub mod TurnLaws
 pub mod StreamLaws
 pub mod SectionLaws
 pub mod PackLaws
+pub mod ImageLaws

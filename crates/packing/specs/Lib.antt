@@ -3,3 +3,4 @@ pub mod Sizes
 pub mod Bitmap
 pub mod Work
 pub mod Stream
+pub mod Packed

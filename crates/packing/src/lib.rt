@@ -1,4 +1,6 @@
-// The front of the packer: reading a table, the walk through it, its trits, and the contents of sections 1 and 2.
+// The packer: reading a table, the walk through it, its trits, the nine sections, and the whole.
+pub mod image;
+pub mod pack;
 pub mod sections;
 pub mod stream;
 pub mod table;

@@ -1,0 +1,116 @@
+// The image of a walked table: nine sections, each after its count, one behind the other.
+ghost use mathlib.Core.Path.{_≡_};
+ghost use mathlib.Core.List.{List, [], _∷_};
+ghost use Prim.Native.Nat.{ℕ, _+_, _-_, _*_, _/_, _≤_};
+ghost use lib.ListN.{length};
+ghost use Rattle.format.specs.Lists.{over};
+ghost use Rattle.format.specs.Level.{walk};
+ghost use Rattle.format.specs.Image.{leBytes, bytes, pairs, lastMultiple, section3, section4, section5, section6, section7, section8, section9, written};
+ghost use Rattle.format.specs.Packing.{imageOf};
+ghost use Rattle.little.specs.Put.{putAt};
+ghost use Rattle.marks.specs.Uses.{Uses, FirstIndices};
+ghost use Rattle.samples.specs.Samples.{Plan};
+ghost use Rattle.packing.specs.Work.{graphOf, Kept};
+ghost use Rattle.packing.specs.Packed.{Planned, LaidOut, Started, front};
+
+// Sections 1 and 2, from the table and its walk.
+fn put_walk(table: &[u16], work: &[u32], image: &mut [u8], lay: trits::Layout)
+    requires { ⌜ Planned (now table) (now work) lay (now image) ⌝ }
+    ensures { λ _. ⌜ now (image .exit) ≡ putAt (now (image .entry)) 0 (front (walk (graphOf (now (table .entry))) .trits) (walk (graphOf (now (table .entry))) .shadows)) ⌝ }
+{
+    let n = lay.nodes;
+    let total = lay.trits;
+    let roots = total - lay.roots;
+    let shadows = lay.shadows;
+    let at1 = lay.at1;
+    let end1 = at1 + (total + 4) / 5;
+    little::put4(image, 0, total);
+    crate::sections::put_trytes(table, work, n, roots, &mut image[at1..end1]);
+    let at2 = lay.at2;
+    let end2 = at2 + 2 * shadows;
+    little::put4(image, at2 - 4, shadows);
+    crate::sections::put_shadows(table, work, n, roots, &mut image[at2..end2]);
+}
+
+// Sections 3, 4 and 9, from the shadow uses of each level number.
+fn put_marks(uses: &[u32], image: &mut [u8], lay: trits::Layout)
+    requires { ⌜ ((trits : List ℕ) × (H : List ℕ) × LaidOut trits H lay (now image) × Uses trits H (now uses)) ⌝ }
+    ensures { λ _. ⌜ ((trits H : List ℕ) → LaidOut trits H lay (now (image .entry)) → Uses trits H (now (uses .entry))
+        → now (image .exit) ≡ putAt (putAt (now (image .entry)) (lay .at3 - 4) (written (section3 trits H ∷ section4 trits H ∷ []))) (lay .at9 - 4) (written (section9 trits H ∷ []))) ⌝ }
+{
+    let n = lay.nodes;
+    let words = (n + 63) / 64;
+    let at3 = lay.at3;
+    let end3 = at3 + 8 * words;
+    little::put4(image, at3 - 4, n);
+    marks::put_marks(uses, &mut image[at3..end3]);
+    let marked = lay.marked;
+    let at4 = lay.at4;
+    let end4 = at4 + 4 * (marked + 1);
+    little::put4(image, at4 - 4, marked + 1);
+    marks::put_starts(uses, &mut image[at4..end4]);
+    let at9 = lay.at9;
+    let end9 = at9 + 2 * words;
+    little::put4(image, at9 - 4, words);
+    marks::put_mark_samples(uses, &mut image[at9..end9]);
+}
+
+// Section 5, from sections 1 and 2 and each node's first index.
+fn put_places(next: &mut [u32], image: &mut [u8], lay: trits::Layout)
+    requires { ⌜ ((trits : List ℕ) × (H : List ℕ) × Started trits H lay (now image) × (length (now next) ≡ lay .nodes) × FirstIndices trits H (now next)) ⌝ }
+    ensures { λ _. ⌜ ((trits H : List ℕ) → Started trits H lay (now (image .entry)) → FirstIndices trits H (now (next .entry))
+        → now (image .exit) ≡ putAt (now (image .entry)) (lay .at5 - 4) (written (section5 trits H ∷ []))) ⌝ }
+{
+    let total = lay.trits;
+    let at1 = lay.at1;
+    let end1 = at1 + (total + 4) / 5;
+    let at2 = lay.at2;
+    let shadows = lay.shadows;
+    let at5 = lay.at5;
+    little::put4(image, at5 - 4, shadows);
+    samples::put_places(image, at1, end1, at2, next, at5);
+}
+
+// Section 6, 7 or 8, from section 1: its contents start at `at`.
+fn put_level(image: &mut [u8], lay: trits::Layout, step: usize, fan: usize, width: usize, at: usize)
+    requires { ⌜ ((trits : List ℕ) × (H : List ℕ) × Started trits H lay (now image) × Plan step fan width (lay .trits) at (now image) × (lay .at3 ≤ at)) ⌝ }
+    ensures { λ _. ⌜ ((trits H : List ℕ) → Started trits H lay (now (image .entry))
+        → (now (image .exit) ≡ putAt (putAt (now (image .entry)) (at - 4) (leBytes 4 (lay .trits / step + 1))) at (bytes width (pairs step (lastMultiple (step * fan)) trits)))
+        × Started trits H lay (now (image .exit))) ⌝ }
+{
+    let total = lay.trits;
+    let at1 = lay.at1;
+    let end1 = at1 + (total + 4) / 5;
+    let table = trits::tryte_table();
+    little::put4(image, at - 4, total / step + 1);
+    samples::put_samples(image, at1, end1, &table, total, step, fan, width, at);
+}
+
+// Sections 6, 7 and 8.
+fn put_samples(image: &mut [u8], lay: trits::Layout)
+    requires { ⌜ ((trits : List ℕ) × (H : List ℕ) × Started trits H lay (now image)) ⌝ }
+    ensures { λ _. ⌜ ((trits H : List ℕ) → Started trits H lay (now (image .entry))
+        → now (image .exit) ≡ putAt (now (image .entry)) (lay .at6 - 4) (written (section6 trits H ∷ section7 trits H ∷ section8 trits H ∷ []))) ⌝ }
+{
+    let at6 = lay.at6;
+    put_level(image, lay, 65725, 2, 4, at6);
+    let at7 = lay.at7;
+    put_level(image, lay, 275, 239, 2, at7);
+    let at8 = lay.at8;
+    put_level(image, lay, 25, 11, 1, at8);
+}
+
+// The whole image; the work is left with other contents, but only its first 3n words.
+pub fn put_image(table: &[u16], work: &mut [u32], image: &mut [u8], lay: trits::Layout)
+    requires { ⌜ Planned (now table) (now work) lay (now image) ⌝ }
+    ensures { λ _. ⌜ (now (image .exit) ≡ over (imageOf (graphOf (now (table .entry)))) (now (image .entry)))
+        × Kept 0 (3 * lay .nodes) (now (work .entry)) (now (work .exit)) ⌝ }
+{
+    let n = lay.nodes;
+    put_walk(table, work, image, lay);
+    crate::walk::uses_by_level(work, n);
+    put_marks(&work[0..n], image, lay);
+    put_samples(image, lay);
+    marks::first_indices(&mut work[0..n]);
+    put_places(&mut work[0..n], image, lay);
+}
