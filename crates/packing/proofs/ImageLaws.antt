@@ -7,7 +7,7 @@ use mathlib.Core.Path.{_≡_, refl, sym, ap, ap₂, _∙_, subst}
 use mathlib.Core.List.{List, [], _∷_, _++_, append-nil, append-assoc, map}
 use lib.Dec.{T, eqb, eqb-refl, lit<}
 use lib.ListN.{length, getD, take, drop, length-append, take-append-drop}
-use lib.Seq.{getD-append-add, getD-drop, drop-drop, drop-at, take-at, take-append-le, take-take, length-take-le}
+use lib.Seq.{drop-drop, drop-at, take-at, take-append-le, take-take, length-take-le}
 use Rattle.format.specs.Lists.{run, over, up, countIn}
 use Rattle.format.specs.Table.{Graph, nodes}
 use Rattle.format.specs.Level.{walk, levelOrder, reached, Counts}
@@ -26,8 +26,9 @@ use Rattle.little.specs.Put.{putAt}
 use Rattle.little.proofs.Laws.{put-more, put-before, length-put}
 use Rattle.marks.specs.Uses.{Uses, FirstIndices}
 use Rattle.samples.specs.Lent.{TritsAt, ShadowsAt}
-use Rattle.samples.specs.Places.{Ready}
+use Rattle.samples.specs.Places.{Ready, groupEnds}
 use Rattle.samples.specs.Samples.{Plan}
+use Rattle.samples.proofs.PlaceLaws.{length-ends}
 use Rattle.samples.proofs.SampleLaws.{far-pairs}
 use Rattle.trits.specs.declared.Layout.{Layout}
 use Rattle.trits.specs.Layout.{layout}
@@ -484,13 +485,12 @@ uses-in {trits} {H} {lay} d k work ek e =
       entries = shadow-nodes trits H (p .paired) (p .seen);
     })
 
--- a part at the front, come back
-pub front-part : (k : ℕ) (f w : List ℕ) → length f ≡ k → (i : ℕ) → k ≤ i → getD (f ++ drop k w) i 0 ≡ getD w i 0
-front-part k f w e i h =
-    let j : i ≡ length f + (i - k) = omega arith in
-    let b : k + (i - k) ≡ i = omega arith in
-    ap (λ (x : ℕ). getD (f ++ drop k w) x 0) j ∙ getD-append-add f (drop k w) (i - k) 0 ∙ getD-drop k w (i - k) 0 ∙ ap (λ (x : ℕ). getD w x 0) b
-
-pub kept-uses : (n : ℕ) (H work : List ℕ) {work′ : List ℕ} → work′ ≡ over (usesOf n H) work → (i : ℕ) → n ≤ i → getD work′ i 0 ≡ getD work i 0
+-- where the uses stood and the first indices came back, as come back at last
+pub ends-over : {trits H : List ℕ} {lay : Layout} {buffer : List ℕ} → LaidOut trits H lay buffer → (k : ℕ) (firsts ends work : List ℕ) {uses : List ℕ} → k ≡ lay .nodes
+    → uses ≡ over (usesOf (lay .nodes) H) work → length firsts ≡ k → ends ≡ groupEnds trits H → ends ++ drop k (firsts ++ drop k uses) ≡ over (groupEnds trits H) work
 unfolding usesOf
-kept-uses n H work e i h = ap (λ (x : List ℕ). getD x i 0) e ∙ front-part _ (usesOf n H) work refl i (omega (arith, length-each n (λ (j : ℕ). countIn (suc j) H)))
+ends-over {trits} {H} {lay} d k firsts ends work {uses} ek eu ef ee =
+    let us : List ℕ = usesOf (lay .nodes) H in
+    let n : length us ≡ k = length-each (lay .nodes) _ ∙ sym ek in
+    let m : length us ≡ length (groupEnds trits H) = n ∙ ek ∙ sized d .nodes-are ∙ sym (length-ends trits H) in
+    rw (ee, drop-at firsts (drop k uses) k ef, eu, drop-at us _ k n, m)

@@ -3,10 +3,10 @@ use mathlib.Core.Path.{_≡_, refl, sym, ap, _∙_, subst}
 use mathlib.Core.Logic.{_⊎_, inl, inr}
 use mathlib.Core.Bool.{true}
 use mathlib.Core.List.{List, _++_}
-use Prim.Native.Nat.{ℕ, _+_, _-_, _*_, _/_, _≤_, _<_}
+use Prim.Native.Nat.{ℕ, _+_, _-_, _*_, _/_, _≤_, _<_, zero-le}
 use native.Mathlib.Omega.{arith}
 use lib.Dec.{T}
-use lib.ListN.{length, drop, replicate, length-drop, length-replicate}
+use lib.ListN.{length, getD, drop, replicate, length-drop, length-replicate}
 use lib.Seq.{ext-getD, getD-drop, take-all}
 use borrow.Author.Tests.{eq-eqb, ne-eqb}
 use Rattle.format.specs.Lists.{over, oneTo, countIn}
@@ -23,12 +23,15 @@ use Rattle.format.proofs.Sizes.{imageLength, length-image}
 use Rattle.format.proofs.CheckLaws.{shadow-nodes}
 use Rattle.format.proofs.Accepting.{proper-table}
 use Rattle.format.proofs.Outcomes.{pack-7, pack-8, pack-9, pack-done}
+use Rattle.samples.specs.Places.{groupEnds}
+use Rattle.samples.proofs.PlaceLaws.{length-ends}
 use Rattle.trits.specs.declared.Layout.{Layout}
 use Rattle.trits.specs.Layout.{layout}
 use Rattle.packing.specs.Sizes.{sizesOf}
 use Rattle.packing.specs.Work.{graphOr, graphOf, Sized, startOf, Kept, WorkAt}
 use Rattle.packing.specs.Stream.{Walked}
 use Rattle.packing.specs.Packed.{layoutOf, Planned, Measured, Ordered, Uncleared}
+use Rattle.packing.proofs.OverLaws.{over-all, over-behind}
 use Rattle.packing.proofs.ScanLaws.{length-runs}
 use Rattle.packing.proofs.RunLaws.{formed, limits}
 
@@ -179,13 +182,14 @@ module _ {t order work : List ℕ} {n m c : ℕ} (o : Ordered t order work n m c
       pub planned : Planned t work lay image
       planned = record { walked = subst (λ (k : ℕ). Walked t k work) (sym laid-nodes) (o .walked); laid = laid; room = omega (arith, image-size) }
 
-      pub uncleared-done : {order′ work′ image′ : List ℕ} → order′ ≡ over (walk g .queue) order → length work′ ≡ length work → Kept 0 (3 * lay .nodes) work work′
+      pub uncleared-done : {order′ work′ image′ : List ℕ} → order′ ≡ over (walk g .queue) order → length work′ ≡ length work → work′ ≡ over (groupEnds (walk g .trits) (walk g .shadows)) work
           → image′ ≡ over (imageOf g) image → Uncleared t n order work image (Image size) order′ work′ image′
       unfolding levelOrder
       uncleared-done {work′ = work′} a b d f = record {
         outcome = λ old e k.
             let many = s .sized .many in
-            let kept : Kept 0 (3 * n) old work′ = λ i z. d i (λ u v. z u (omega (arith, laid-nodes))) ∙ k i z in
+            let ends = over-all (groupEnds (walk g .trits) (walk g .shadows)) n work (length-ends _ _ ∙ totals .ones) (omega (arith, o .walked .held .room)) in
+            let kept : Kept 0 (3 * n) old work′ = λ i z. ap (λ (x : List ℕ). getD x i 0) d ∙ over-behind ends i (omega (arith, z zero-le)) ∙ k i z in
             pack-done t order old image g (s .sized .read) (omega (arith, o .walked .held .room)) (omega (arith, o .order-room)) reaches (omega (arith, image-size))
             ∙ (λ i. packLeaves (Image (sym image-size i)) (sym a i) (clears s old work′ (b ∙ e) kept i) (sym f i));
       }

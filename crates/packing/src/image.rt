@@ -9,8 +9,9 @@ ghost use Rattle.format.specs.Image.{leBytes, bytes, pairs, lastMultiple, secti
 ghost use Rattle.format.specs.Packing.{imageOf};
 ghost use Rattle.little.specs.Put.{putAt};
 ghost use Rattle.marks.specs.Uses.{Uses, FirstIndices};
+ghost use Rattle.samples.specs.Places.{groupEnds};
 ghost use Rattle.samples.specs.Samples.{Plan};
-ghost use Rattle.packing.specs.Work.{graphOf, Kept};
+ghost use Rattle.packing.specs.Work.{graphOf};
 ghost use Rattle.packing.specs.Packed.{Planned, LaidOut, Started, front};
 
 // Sections 1 and 2, from the table and its walk.
@@ -59,7 +60,7 @@ fn put_marks(uses: &[u32], image: &mut [u8], lay: trits::Layout)
 fn put_places(next: &mut [u32], image: &mut [u8], lay: trits::Layout)
     requires { ⌜ ((trits : List ℕ) × (H : List ℕ) × Started trits H lay (now image) × (length (now next) ≡ lay .nodes) × FirstIndices trits H (now next)) ⌝ }
     ensures { λ _. ⌜ ((trits H : List ℕ) → Started trits H lay (now (image .entry)) → FirstIndices trits H (now (next .entry))
-        → now (image .exit) ≡ putAt (now (image .entry)) (lay .at5 - 4) (written (section5 trits H ∷ []))) ⌝ }
+        → (now (image .exit) ≡ putAt (now (image .entry)) (lay .at5 - 4) (written (section5 trits H ∷ []))) × (now (next .exit) ≡ groupEnds trits H)) ⌝ }
 {
     let total = lay.trits;
     let at1 = lay.at1;
@@ -100,11 +101,11 @@ fn put_samples(image: &mut [u8], lay: trits::Layout)
     put_level(image, lay, 25, 11, 1, at8);
 }
 
-// The whole image; the work is left with other contents, but only its first 3n words.
+// The whole image; the work's first n words are left as section 5's writer leaves them.
 pub fn put_image(table: &[u16], work: &mut [u32], image: &mut [u8], lay: trits::Layout)
     requires { ⌜ Planned (now table) (now work) lay (now image) ⌝ }
     ensures { λ _. ⌜ (now (image .exit) ≡ over (imageOf (graphOf (now (table .entry)))) (now (image .entry)))
-        × Kept 0 (3 * lay .nodes) (now (work .entry)) (now (work .exit)) ⌝ }
+        × (now (work .exit) ≡ over (groupEnds (walk (graphOf (now (table .entry))) .trits) (walk (graphOf (now (table .entry))) .shadows)) (now (work .entry))) ⌝ }
 {
     let n = lay.nodes;
     put_walk(table, work, image, lay);

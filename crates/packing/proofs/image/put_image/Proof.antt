@@ -1,5 +1,5 @@
 -- `image::put_image` meets its contract: what each function has put makes the image. Assumes nothing.
-use Prim.Native.Nat.{_-_, _≤_, zero-le}
+use Prim.Native.Nat.{_-_}
 use native.Mathlib.Omega.{arith}
 use mathlib.Core.Path.{_≡_, sym, ap, _∙_, subst}
 use mathlib.Core.List.{_++_}
@@ -11,7 +11,7 @@ use Rattle.format.specs.Packing.{imageOf}
 use Rattle.marks.specs.Uses.{Uses, FirstIndices}
 use Rattle.packing.specs.Work.{graphOf}
 use Rattle.packing.specs.Packed.{Started}
-use Rattle.packing.proofs.ImageLaws.{spans, behind, laid-walk, started, stays, stays-marks, uses-in, all-put, front-part, kept-uses}
+use Rattle.packing.proofs.ImageLaws.{spans, behind, laid-walk, started, stays, stays-marks, uses-in, all-put, ends-over}
 use Rattle.packing.proofs.image.put_image.Statement.{statement}
 use Rattle.packing.proofs.image.put_image.Tie as tie
 
@@ -69,14 +69,11 @@ returns c =
     let uses-at = marks .before .before .before .before .before .before in
     let walked = uses-at .before .before .before .before in
     let x = walked .before .before .before .before .before .before in
-    let k = x .args .lay .nodes - 0 in (
-      all-put (laid-walk (x .pre)) (walked .put-walk .ensures) (marks .put-marks .ensures _ _ (walk-put walked .laid) (uses uses-at)) (samples .put-samples .ensures _ _ (marks-put marks))
-          (places .put-places .ensures _ _ (samples-put samples) (firsts first)),
-      λ i h.
-          let n : x .args .lay .nodes ≤ i = omega (arith, h zero-le) in
-          front-part k (places .put-places .last .0) _ (places .put-places .kept .0 ∙ ap length (take-at (first .first-indices .last .0) _ _ (size first)) ∙ size first) i (omega arith)
-          ∙ front-part k (first .first-indices .last .0) _ (size first) i (omega arith)
-          ∙ kept-uses (x .args .lay .nodes) _ _ (uses-at .uses-by-level .ensures (walk (graphOf (x .args .table .now))) (x .pre .walked .held)) i n,
+    let d = walk-put walked .laid in
+    let last = places .put-places .ensures _ _ (samples-put samples) (firsts first) in (
+      all-put (laid-walk (x .pre)) (walked .put-walk .ensures) (marks .put-marks .ensures _ _ d (uses uses-at)) (samples .put-samples .ensures _ _ (marks-put marks)) (last .0),
+      ends-over d (x .args .lay .nodes - 0) (first .first-indices .last .0) _ _ (omega arith) (uses-at .uses-by-level .ensures (walk (graphOf (x .args .table .now))) (x .pre .walked .held))
+          (size first) (last .1),
     )
 
 pub put-image-spec : {M : Type 1} → statement M

@@ -41,8 +41,8 @@ returns c =
     λ trits H s f.
     let t = counted count trits H s in
     let b = behind (s .laid) .five in
-    places-put (s .laid) (count .put4 .ensures)
-    (put .put-places .ensures trits H (trits-at t _ (omega arith)) (shadows-at t _ (omega arith)) (is-ready t _ (count .before .before .before .before .pre .3) f))
+    let e = put .put-places .ensures trits H (trits-at t _ (omega arith)) (shadows-at t _ (omega arith)) (is-ready t _ (count .before .before .before .before .pre .3) f) in
+    (places-put (s .laid) (count .put4 .ensures) (e .0), e .1)
 
 pub put-places-spec : {M : Type 1} → statement M
 put-places-spec =
