@@ -9,6 +9,7 @@ ghost use Rattle.format.specs.Image.{leBytes, bytes, pairs, lastMultiple, secti
 ghost use Rattle.format.specs.Packing.{imageOf};
 ghost use Rattle.little.specs.Put.{putAt};
 ghost use Rattle.marks.specs.Uses.{Uses, FirstIndices};
+ghost use Rattle.samples.specs.Lent.{Rule};
 ghost use Rattle.samples.specs.Places.{groupEnds};
 ghost use Rattle.samples.specs.Samples.{Plan};
 ghost use Rattle.packing.specs.Work.{graphOf};
@@ -72,9 +73,17 @@ fn put_places(next: &mut [u32], image: &mut [u8], lay: trits::Layout)
     samples::put_places(image, at1, end1, at2, next, at5);
 }
 
-// Section 6, 7 or 8, from section 1: its contents start at `at`.
-fn put_level(image: &mut [u8], lay: trits::Layout, step: usize, fan: usize, width: usize, at: usize)
-    requires { ⌜ ((trits : List ℕ) × (H : List ℕ) × Started trits H lay (now image) × Plan step fan width (lay .trits) at (now image) × (lay .at3 ≤ at)) ⌝ }
+// Section 6, 7 or 8, from section 1 by the table of trytes: its contents start at `at`.
+fn put_level(
+    image: &mut [u8],
+    lay: trits::Layout,
+    table: &[u8; 243],
+    step: usize,
+    fan: usize,
+    width: usize,
+    at: usize,
+)
+    requires { ⌜ ((trits : List ℕ) × (H : List ℕ) × Started trits H lay (now image) × Plan step fan width (lay .trits) at (now image) × (lay .at3 ≤ at) × Rule (now table)) ⌝ }
     ensures { λ _. ⌜ ((trits H : List ℕ) → Started trits H lay (now (image .entry))
         → (now (image .exit) ≡ putAt (putAt (now (image .entry)) (at - 4) (leBytes 4 (lay .trits / step + 1))) at (bytes width (pairs step (lastMultiple (step * fan)) trits)))
         × Started trits H lay (now (image .exit))) ⌝ }
@@ -82,9 +91,8 @@ fn put_level(image: &mut [u8], lay: trits::Layout, step: usize, fan: usize, widt
     let total = lay.trits;
     let at1 = lay.at1;
     let end1 = at1 + (total + 4) / 5;
-    let table = trits::tryte_table();
     little::put4(image, at - 4, total / step + 1);
-    samples::put_samples(image, at1, end1, &table, total, step, fan, width, at);
+    samples::put_samples(image, at1, end1, table, total, step, fan, width, at);
 }
 
 // Sections 6, 7 and 8.
@@ -93,12 +101,13 @@ fn put_samples(image: &mut [u8], lay: trits::Layout)
     ensures { λ _. ⌜ ((trits H : List ℕ) → Started trits H lay (now (image .entry))
         → now (image .exit) ≡ putAt (now (image .entry)) (lay .at6 - 4) (written (section6 trits H ∷ section7 trits H ∷ section8 trits H ∷ []))) ⌝ }
 {
+    let table = trits::tryte_table();
     let at6 = lay.at6;
-    put_level(image, lay, 65725, 2, 4, at6);
+    put_level(image, lay, &table, 65725, 2, 4, at6);
     let at7 = lay.at7;
-    put_level(image, lay, 275, 239, 2, at7);
+    put_level(image, lay, &table, 275, 239, 2, at7);
     let at8 = lay.at8;
-    put_level(image, lay, 25, 11, 1, at8);
+    put_level(image, lay, &table, 25, 11, 1, at8);
 }
 
 // The whole image; the work's first n words are left as section 5's writer leaves them.

@@ -1,37 +1,45 @@
 -- `image::put_samples` meets its contract: three levels, one behind the other. Assumes nothing.
-use mathlib.Core.Path.{refl}
+use mathlib.Core.Path.{refl, sym, subst}
 use borrow.Author.Needs.{needs}
 use Rattle.format.specs.Image.{section7, section8}
+use Rattle.format.proofs.Tryte.{tryte-entry}
+use Rattle.samples.specs.Lent.{Rule}
 use Rattle.packing.proofs.ImageLaws.{behind, plan6, plan7, plan8, samples-put}
 use Rattle.packing.proofs.image.put_samples.Statement.{statement}
 use Rattle.packing.proofs.image.put_samples.Tie as tie
 
+rule : (c : tie.After-tryte-table) → Rule (c .tryte-table .result)
+rule c = subst Rule (sym (c .tryte-table .ensures)) tryte-entry
+
 put-level-requires : tie.Need-put-level-requires
 put-level-requires c κs =
-    let p = c .before .before .pre in
-    (p .0, p .1, p .2, plan6 (p .2 .laid), behind (p .2 .laid) .six)
+    let table = c .before .before in
+    let p = table .before .before .pre in
+    (p .0, p .1, p .2, plan6 (p .2 .laid), behind (p .2 .laid) .six, rule table)
 
 put-level-requires-2 : tie.Need-put-level-requires-2
 put-level-requires-2 c κs =
-    let six = c .before .before .before in
-    let p = six .before .before .before .pre in
+    let six = c .before .before .before .before in
+    let table = six .before .before .before in
+    let p = table .before .before .pre in
     let s = six .put-level .ensures (p .0) (p .1) (p .2) .1 in
-    (p .0, p .1, s, plan7 (s .laid), behind (s .laid) .seven)
+    (p .0, p .1, s, plan7 (s .laid), behind (s .laid) .seven, rule table)
 
 put-level-requires-3 : tie.Need-put-level-requires-3
 put-level-requires-3 c κs =
-    let seven = c .before .before .before in
-    let six = seven .before .before .before .before in
-    let p = six .before .before .before .pre in
+    let seven = c .before .before .before .before in
+    let six = seven .before .before .before .before .before in
+    let table = six .before .before .before in
+    let p = table .before .before .pre in
     let s = seven .put-level2 .ensures (p .0) (p .1) (six .put-level .ensures (p .0) (p .1) (p .2) .1) .1 in
-    (p .0, p .1, s, plan8 (s .laid), behind (s .laid) .eight)
+    (p .0, p .1, s, plan8 (s .laid), behind (s .laid) .eight, rule table)
 
 returns : tie.Need-returns
 unfolding section7 section8
 returns c =
     let eight = c .before .before in
-    let seven = eight .before .before .before .before in
-    let six = seven .before .before .before .before in
+    let seven = eight .before .before .before .before .before in
+    let six = seven .before .before .before .before .before in
     λ trits H s.
     let a = six .put-level .ensures trits H s in
     let b = seven .put-level2 .ensures trits H (a .1) in
@@ -39,4 +47,4 @@ returns c =
     samples-put (s .laid) refl (a .0) refl (b .0) refl (e .0)
 
 pub put-samples-spec : {M : Type 1} → statement M
-put-samples-spec = tie.close (tie.spec put-level-requires put-level-requires-2 put-level-requires-3 (λ c. search needs) returns)
+put-samples-spec = tie.close (tie.spec (λ c κs. search needs) put-level-requires put-level-requires-2 put-level-requires-3 (λ c. search needs) returns)
