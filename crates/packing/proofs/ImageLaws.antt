@@ -1,6 +1,6 @@
 -- Sections put one behind the other or one ahead of the other are put at once; where they lie by the layout; and that sections 1 and 2 stay while the
 -- others are put behind them. Assumes nothing.
-use Prim.Native.Nat.{ℕ, suc, _+_, _-_, _*_, _/_, _≤_, _<_}
+use Prim.Native.Nat.{ℕ, suc, _+_, _-_, _*_, _/_, _≤_}
 use native.Mathlib.Nat.{zero-add}
 use native.Mathlib.Omega.{arith}
 use mathlib.Core.Path.{_≡_, refl, sym, ap, ap₂, _∙_, subst}
@@ -8,14 +8,14 @@ use mathlib.Core.List.{List, [], _∷_, _++_, append-nil, append-assoc, map}
 use lib.Dec.{T, eqb, eqb-refl, lit<}
 use lib.ListN.{length, getD, take, drop, length-append, take-append-drop}
 use lib.Seq.{drop-drop, drop-at, take-at, take-append-le, take-take, length-take-le}
-use Rattle.format.specs.Lists.{run, over, up, countIn}
+use Rattle.format.specs.Lists.{over, countIn}
 use Rattle.format.specs.Table.{Graph, nodes}
 use Rattle.format.specs.Level.{walk, levelOrder, reached, Counts}
 use Rattle.format.specs.Trits.{trytes}
-use Rattle.format.specs.Image.{leBytes, bytes, nodeCount, pairs, lastMultiple, marked, markedNodes, Section, section1, section2, section3, section4, section5, section6, section7, section8, section9, given, written, image}
+use Rattle.format.specs.Image.{leBytes, bytes, nodeCount, markedNodes, Section, section1, section2, section3, section4, section5, section6, section7, section8, section9, given, written, image}
 use Rattle.format.specs.Packing.{Accepted, imageOf}
 use Rattle.format.specs.Proper.{ProperTrits}
-use Rattle.format.proofs.Laws.{length-run, length-keep, length-each, getD-each}
+use Rattle.format.proofs.Laws.{length-each, getD-each}
 use Rattle.format.proofs.Digits.{length-digits}
 use Rattle.format.proofs.Sizes.{size, length-bytes, length-written}
 use Rattle.format.proofs.CheckLaws.{shadow-nodes, limits-nodes}
@@ -33,98 +33,80 @@ use Rattle.samples.proofs.SampleLaws.{far-pairs}
 use Rattle.trits.specs.declared.Layout.{Layout}
 use Rattle.trits.specs.Layout.{layout}
 use Rattle.packing.specs.Work.{graphOf, startOf, usesOf}
-use Rattle.packing.specs.Packed.{layoutOf, Planned, LaidOut, front, Started}
+use Rattle.packing.specs.Packed.{layoutOf, Planned, LaidOut, front, Started, sampled}
 use Rattle.packing.proofs.PackLaws.{roots-at}
 
 -- ---- puts
 
--- a part that was lent, of so many places from a on, comes back as vs
-pub put-part : (a size : ℕ) (l : List ℕ) {part vs : List ℕ} → part ≡ vs → length vs ≡ size → take a l ++ (part ++ drop (a + size - a) (drop a l)) ≡ putAt l a vs
-put-part a size l {vs = vs} is e =
-    let k : a + size - a ≡ length vs = omega arith in
-    rw (is, k, drop-drop, append-assoc)
+-- the sections ss are put, the contents of the first from place `at` on, which gives r
+pub record Puts (at : ℕ) (ss : List Section) (l r : List ℕ) : Type 0 where
+  pub counted : 4 ≤ at
+  pub inside : at + size ss ≤ length l + 4
+  pub is : r ≡ putAt l (at - 4) (written ss)
 
--- put ahead of what was put: both are put at once
-put-ahead : (at to : ℕ) (l vs ws : List ℕ) {m r : List ℕ} → to ≤ length l → to ≡ at + length vs → m ≡ putAt l to ws → r ≡ putAt m at vs → r ≡ putAt l at (vs ++ ws)
-put-ahead at to l vs ws {m} h seam e e′ =
-    let f : length (take to l) ≡ to = length-take-le to l h in
-    let is : m ≡ take to l ++ (ws ++ drop (to + length ws) l) = e ∙ append-assoc (take to l) ws _ in
-    let a : take at m ≡ take at l = rw is (take-append-le at (take to l) _ (omega arith) ∙ take-take at to l (omega arith)) in
-    let d : drop (at + length vs) m ≡ ws ++ drop (to + length ws) l = rw (← seam, is) (drop-at (take to l) _ to f) in
-    let s : at + length (vs ++ ws) ≡ to + length ws = omega (arith, length-append vs ws) in
-    e′ ∙ rw (a, d, s) (simp append-assoc)
+pub puts-size : {at : ℕ} {ss : List Section} {l r : List ℕ} → Puts at ss l r → length r ≡ length l
+puts-size {at} {ss} {l} p = ap length (p .is) ∙ length-put (at - 4) l (written ss) (omega (arith, p, length-written ss))
 
--- a section: its count, and behind it its contents
-put-section : (at a x : ℕ) (l : List ℕ) (s : Section) {m r : List ℕ} → at ≤ length l → a ≡ at + 4 → x ≡ s .entries → m ≡ putAt l at (leBytes 4 x) → r ≡ putAt m a (s .contents)
-    → r ≡ putAt l at (written (s ∷ []))
-put-section at a x l s h ea ex e e′ =
-    rw (append-nil (s .contents)) (put-more at a l (leBytes 4 (s .entries)) (s .contents) h (rw length-digits ea) (rw (← ex) e) e′)
+pub puts-first : {at : ℕ} {ss : List Section} {l r : List ℕ} → Puts at ss l r → at ≡ 4 → r ≡ putAt l 0 (written ss)
+puts-first {ss = ss} {l = l} {r = r} p e = subst (λ (k : ℕ). r ≡ putAt l (k - 4) (written ss)) e (p .is)
+
+-- a count, and behind it contents: a section
+pub put-section : (at x : ℕ) (l : List ℕ) (s : Section) {m r : List ℕ} → 4 ≤ at → at + length (s .contents) ≤ length l → x ≡ s .entries → m ≡ putAt l (at - 4) (leBytes 4 x)
+    → r ≡ putAt m at (s .contents) → Puts at (s ∷ []) l r
+put-section at x l s h h′ ex e e′ = record {
+  counted = h;
+  inside = omega arith;
+  is = rw (append-nil (s .contents)) (put-more (at - 4) at l (leBytes 4 (s .entries)) (s .contents) (omega arith) (rw length-digits (omega arith)) (rw (← ex) e) e′);
+}
+
+-- the contents in a part that was lent, up to `end`
+pub put-part : (at end x : ℕ) (l : List ℕ) (s : Section) {m part : List ℕ} → 4 ≤ at → end ≡ at + length (s .contents) → end ≤ length l → x ≡ s .entries → m ≡ putAt l (at - 4) (leBytes 4 x)
+    → part ≡ s .contents → Puts at (s ∷ []) l (take at m ++ (part ++ drop (end - at) (drop at m)))
+put-part at end x l s h ee h′ ex em is =
+    let k : end - at ≡ length (s .contents) = omega arith in
+    put-section at x l s h (omega arith) ex em (rw (is, k, drop-drop, append-assoc))
 
 written-append : (ss ts : List Section) → written (ss ++ ts) ≡ written ss ++ written ts
 written-append [] ts = refl
 written-append (s ∷ ss) ts = rw (written-append ss ts) (simp append-assoc)
 
-length-sections : (at : ℕ) (l : List ℕ) (ss : List Section) {r : List ℕ} → at + size ss ≤ length l → r ≡ putAt l at (written ss) → length r ≡ length l
-length-sections at l ss h e = ap length e ∙ length-put at l (written ss) (omega (arith, length-written ss))
+size-append : (ss ts : List Section) → size (ss ++ ts) ≡ size ss + size ts
+size-append [] ts = sym (zero-add (size ts))
+size-append (s ∷ ss) ts = omega (arith, size-append ss ts)
 
--- sections behind sections
-sections-behind : (at to : ℕ) (l : List ℕ) (ss ts : List Section) {m r : List ℕ} → at ≤ length l → to ≡ at + size ss → m ≡ putAt l at (written ss) → r ≡ putAt m to (written ts)
-    → r ≡ putAt l at (written (ss ++ ts))
-sections-behind at to l ss ts h seam e e′ = rw (written-append ss ts) (put-more at to l (written ss) (written ts) h (omega (arith, length-written ss)) e e′)
+-- sections put behind sections, or ahead of them: all are put at once
+module _ {at to : ℕ} {ss ts : List Section} {l m r : List ℕ} where
+  pub puts-behind : Puts at ss l m → Puts to ts m r → to ≡ at + size ss → Puts at (ss ++ ts) l r
+  puts-behind p q seam = record {
+    counted = p .counted;
+    inside = omega (arith, size-append ss ts, q .inside, puts-size p);
+    is = rw (written-append ss ts) (put-more (at - 4) (to - 4) l (written ss) (written ts) (omega (arith, p)) (omega (arith, p, length-written ss)) (p .is) (q .is));
+  }
 
--- sections ahead of sections
-sections-ahead : (at to : ℕ) (l : List ℕ) (ss ts : List Section) {m r : List ℕ} → to ≤ length l → to ≡ at + size ss → m ≡ putAt l to (written ts) → r ≡ putAt m at (written ss)
-    → r ≡ putAt l at (written (ss ++ ts))
-sections-ahead at to l ss ts h seam e e′ = rw (written-append ss ts) (put-ahead at to l (written ss) (written ts) h (omega (arith, length-written ss)) e e′)
-
--- one section more
-put-on : (at to a x : ℕ) (l : List ℕ) (ss : List Section) (s : Section) {r m r′ : List ℕ} → at + size ss ≤ length l → to ≡ at + size ss → a ≡ to + 4 → x ≡ s .entries
-    → r ≡ putAt l at (written ss) → m ≡ putAt r to (leBytes 4 x) → r′ ≡ putAt m a (s .contents) → r′ ≡ putAt l at (written (ss ++ (s ∷ [])))
-put-on at to a x l ss s {r} h seam ea ex e e′ e″ =
-    sections-behind at to l ss (s ∷ []) (omega arith) seam e (put-section to a x r s (omega (arith, length-sections at l ss h e)) ea ex e′ e″)
+  puts-ahead : Puts to ts l m → Puts at ss m r → to ≡ at + size ss → Puts at (ss ++ ts) l r
+  puts-ahead p q seam =
+      let vs : List ℕ = written ss in
+      let ws : List ℕ = written ts in
+      let b : ℕ = to - 4 in
+      let n : b ≡ at - 4 + length vs = omega (arith, q .counted, length-written ss) in
+      let f : length (take b l) ≡ b = length-take-le b l (omega (arith, p)) in
+      let is : m ≡ take b l ++ (ws ++ drop (b + length ws) l) = p .is ∙ append-assoc (take b l) ws _ in
+      let a : take (at - 4) m ≡ take (at - 4) l = rw is (take-append-le (at - 4) (take b l) _ (omega arith) ∙ take-take (at - 4) b l (omega arith)) in
+      let d : drop (at - 4 + length vs) m ≡ ws ++ drop (b + length ws) l = rw (← n, is) (drop-at (take b l) _ b f) in
+      let k : at - 4 + length (vs ++ ws) ≡ b + length ws = omega (arith, length-append vs ws) in
+      record { counted = q .counted; inside = omega (arith, size-append ss ts, p .inside); is = q .is ∙ rw (written-append ss ts, a, d, k) (simp append-assoc) }
 
 -- ---- the layout
 
--- the counts of the sections, and how long their contents are
 pub record Sizes (trits H : List ℕ) (lay : Layout) : Type 0 where
   pub trits-are : lay .trits ≡ length trits
   pub nodes-are : lay .nodes ≡ nodeCount trits
   pub shadows-are : lay .shadows ≡ length H
   pub marked-are : lay .marked ≡ length (markedNodes trits H)
-  pub count1 : lay .trits ≡ section1 trits H .entries
-  pub count2 : lay .shadows ≡ section2 trits H .entries
-  pub count3 : lay .nodes ≡ section3 trits H .entries
-  pub count4 : lay .marked + 1 ≡ section4 trits H .entries
-  pub count5 : lay .shadows ≡ section5 trits H .entries
-  pub count6 : lay .trits / 65725 + 1 ≡ section6 trits H .entries
-  pub count7 : lay .trits / 275 + 1 ≡ section7 trits H .entries
-  pub count8 : lay .trits / 25 + 1 ≡ section8 trits H .entries
-  pub count9 : up (lay .nodes) 64 ≡ section9 trits H .entries
-  pub size1 : length (section1 trits H .contents) ≡ up (lay .trits) 5
-  pub size2 : length (section2 trits H .contents) ≡ 2 * lay .shadows
-  pub size3 : length (section3 trits H .contents) ≡ 8 * up (lay .nodes) 64
-  pub size4 : length (section4 trits H .contents) ≡ 4 * (lay .marked + 1)
-  pub size5 : length (section5 trits H .contents) ≡ 4 * lay .shadows
-  pub size6 : length (section6 trits H .contents) ≡ 4 * (2 * (lay .trits / 65725 + 1))
-  pub size7 : length (section7 trits H .contents) ≡ 2 * (2 * (lay .trits / 275 + 1))
-  pub size8 : length (section8 trits H .contents) ≡ 2 * (lay .trits / 25 + 1)
-  pub size9 : length (section9 trits H .contents) ≡ 2 * up (lay .nodes) 64
+  pub size-of : (k : ℕ) → getD (map sizeOf (section1 trits H ∷ map sectionOf (uniforms trits H))) k 0 ≡ getD (sizes (lay .trits) (lay .nodes) (lay .shadows) (lay .marked)) k 0
 
-abbrev all : List ℕ → List ℕ → List Section
-all trits H =
-    section1 trits H
-    ∷ section2 trits H
-    ∷ section3 trits H
-    ∷ section4 trits H
-    ∷ section5 trits H
-    ∷ section6 trits H
-    ∷ section7 trits H
-    ∷ section8 trits H
-    ∷ section9 trits H
-    ∷ []
-
--- where the contents start, one section behind the other, up to the end, which is small
-record Offsets (trits H : List ℕ) (lay : Layout) (room : ℕ) : Type 0 where
+-- where the contents start, one section behind the other, up to the end
+pub record Offsets (trits H : List ℕ) (lay : Layout) (room : ℕ) : Type 0 where
   pub at1-is : lay .at1 ≡ 4
   pub at2-is : lay .at2 ≡ lay .at1 + length (section1 trits H .contents) + 4
   pub at3-is : lay .at3 ≡ lay .at2 + length (section2 trits H .contents) + 4
@@ -134,221 +116,90 @@ record Offsets (trits H : List ℕ) (lay : Layout) (room : ℕ) : Type 0 where
   pub at7-is : lay .at7 ≡ lay .at6 + length (section6 trits H .contents) + 4
   pub at8-is : lay .at8 ≡ lay .at7 + length (section7 trits H .contents) + 4
   pub at9-is : lay .at9 ≡ lay .at8 + length (section8 trits H .contents) + 4
-  pub ends : size (all trits H) ≤ room
-  pub small : size (all trits H) < 16777216
+  pub ends : lay .at9 + length (section9 trits H .contents) ≤ room
 
 -- of the layout itself
 module _ (trits H : List ℕ) (c : ℕ) (p : ProperTrits trits H) where
   abbrev own : Layout
   own = layout (length trits) (nodeCount trits) c (length H) (length (markedNodes trits H))
 
-  at-k : (k : ℕ) → getD (map sizeOf (section1 trits H ∷ map sectionOf (uniforms trits H))) k 0 ≡ getD (sizes (length trits) (nodeCount trits) (length H) (length (markedNodes trits H))) k 0
-  at-k k = ap (λ (l : List ℕ). getD l k 0) (image-sectioned trits H p .sized)
-
   sizes-of : Sizes trits H own
-  unfolding section1 section2 section3 section4 section5 section6 section7 section8 section9
-  sizes-of = record {
-    trits-are = refl;
-    nodes-are = refl;
-    shadows-are = refl;
-    marked-are = refl;
-    count1 = refl;
-    count2 = refl;
-    count3 = refl;
-    count4 = refl;
-    count5 = refl;
-    count6 = refl;
-    count7 = refl;
-    count8 = refl;
-    count9 = refl;
-    size1 = at-k 0;
-    size2 = at-k 1;
-    size3 = at-k 2;
-    size4 = at-k 3;
-    size5 = at-k 4;
-    size6 = at-k 5;
-    size7 = at-k 6;
-    size8 = at-k 7;
-    size9 = at-k 8;
-  }
+  sizes-of = record { trits-are = refl; nodes-are = refl; shadows-are = refl; marked-are = refl; size-of = λ k. ap (λ (l : List ℕ). getD l k 0) (image-sectioned trits H p .sized) }
 
-  offsets-of : (room : ℕ) → length H ≤ 65535 → length (image trits H) ≤ room → Offsets trits H own room
-  unfolding image given markedNodes
-  offsets-of room few fits =
-      let n = limits-nodes trits (p .in-limits) in
-      let t = p .length-high in
-      let b1 : length (section1 trits H .contents) ≤ 300000 = omega (arith, at-k 0) in
-      let b2 : length (section2 trits H .contents) ≤ 300000 = omega (arith, at-k 1) in
-      let b3 : length (section3 trits H .contents) ≤ 300000 = omega (arith, at-k 2) in
-      let b4 : length (section4 trits H .contents) ≤ 300000 = omega (arith, at-k 3, length-keep (marked H) (run 1 (nodeCount trits)), length-run 1 (nodeCount trits)) in
-      let b5 : length (section5 trits H .contents) ≤ 300000 = omega (arith, at-k 4) in
-      let b6 : length (section6 trits H .contents) ≤ 300000 = omega (arith, at-k 5) in
-      let b7 : length (section7 trits H .contents) ≤ 300000 = omega (arith, at-k 6) in
-      let b8 : length (section8 trits H .contents) ≤ 300000 = omega (arith, at-k 7) in
-      let b9 : length (section9 trits H .contents) ≤ 300000 = omega (arith, at-k 8) in
-      let w = length-written (all trits H) in
+  offsets-of : (room : ℕ) → length (image trits H) ≤ room → Offsets trits H own room
+  unfolding image given
+  offsets-of room fits =
+      let z = sizes-of .size-of in
+      let w = length-written (section1 trits H ∷ section2 trits H ∷ given trits H) in
       record {
         at1-is = refl;
-        at2-is = omega (arith, at-k 0);
-        at3-is = omega (arith, at-k 1);
-        at4-is = omega (arith, at-k 2);
-        at5-is = omega (arith, at-k 3);
-        at6-is = omega (arith, at-k 4);
-        at7-is = omega (arith, at-k 5);
-        at8-is = omega (arith, at-k 6);
-        at9-is = omega (arith, at-k 7);
-        ends = omega arith;
-        small = omega arith;
+        at2-is = omega (arith, z 0);
+        at3-is = omega (arith, z 1);
+        at4-is = omega (arith, z 2);
+        at5-is = omega (arith, z 3);
+        at6-is = omega (arith, z 4);
+        at7-is = omega (arith, z 5);
+        at8-is = omega (arith, z 6);
+        at9-is = omega (arith, z 7);
+        ends = omega (arith, z 0, z 1, z 2, z 3, z 4, z 5, z 6, z 7);
       }
 
-module _ {trits H : List ℕ} {lay : Layout} {buffer : List ℕ} (d : LaidOut trits H lay buffer) where
+module _ {trits H : List ℕ} {lay : Layout} {l : List ℕ} (d : LaidOut trits H lay l) where
   pub sized : Sizes trits H lay
   sized = subst (Sizes trits H) (sym (d .is)) (sizes-of trits H (lay .roots) (d .proper))
 
-  pub few-nodes : nodeCount trits ≤ 30000
-  few-nodes = limits-nodes trits (d .proper .in-limits)
+  pub few-nodes : lay .nodes ≤ 30000
+  few-nodes = omega (arith, sized .nodes-are, limits-nodes trits (d .proper .in-limits))
 
-  offsets : Offsets trits H lay (length buffer)
-  offsets = subst (λ (x : Layout). Offsets trits H x (length buffer)) (sym (d .is)) (offsets-of trits H (lay .roots) (d .proper) (length buffer) (d .few) (d .room))
+  pub offsets : Offsets trits H lay (length l)
+  offsets = subst (λ (x : Layout). Offsets trits H x (length l)) (sym (d .is)) (offsets-of trits H (lay .roots) (d .proper) (length l) (d .room))
 
--- a section's contents start after its count, end in the buffer, and are small
-abbrev pub Span : ℕ → ℕ → ℕ → Type 0
-Span at size room = (4 ≤ at) × (at + size ≤ room) × (at + size < 16777216)
+  -- ---- the levels of samples
 
-pub record Spans (trits H : List ℕ) (lay : Layout) (room : ℕ) : Type 0 where
-  pub one : Span (lay .at1) (length (section1 trits H .contents)) room
-  pub two : Span (lay .at2) (length (section2 trits H .contents)) room
-  pub three : Span (lay .at3) (length (section3 trits H .contents)) room
-  pub four : Span (lay .at4) (length (section4 trits H .contents)) room
-  pub five : Span (lay .at5) (length (section5 trits H .contents)) room
-  pub six : Span (lay .at6) (length (section6 trits H .contents)) room
-  pub seven : Span (lay .at7) (length (section7 trits H .contents)) room
-  pub eight : Span (lay .at8) (length (section8 trits H .contents)) room
-  pub nine : Span (lay .at9) (length (section9 trits H .contents)) room
+  pub plan6 : Plan 65725 2 4 (lay .trits) (lay .at6) l
+  plan6 = record { trytewise = refl; steps = lit< tt; fans = lit< tt; widths = λ a b. absurd (a refl); room = omega (arith, offsets, sized .size-of 5) }
 
-pub spans : {trits H : List ℕ} {lay : Layout} {buffer : List ℕ} → LaidOut trits H lay buffer → Spans trits H lay (length buffer)
-spans d =
-    let o = offsets d in
-    record {
-      one = omega arith;
-      two = omega arith;
-      three = omega arith;
-      four = omega arith;
-      five = omega arith;
-      six = omega arith;
-      seven = omega arith;
-      eight = omega arith;
-      nine = omega arith;
-    }
+  pub plan7 : Plan 275 239 2 (lay .trits) (lay .at7) l
+  plan7 = record { trytewise = refl; steps = lit< tt; fans = lit< tt; widths = λ a b. absurd (b refl); room = omega (arith, offsets, sized .size-of 6) }
 
--- sections 5 to 9 lie behind sections 1 and 2
-pub record Behind (lay : Layout) : Type 0 where
-  pub five : lay .at3 ≤ lay .at5
-  pub six : lay .at3 ≤ lay .at6
-  pub seven : lay .at3 ≤ lay .at7
-  pub eight : lay .at3 ≤ lay .at8
-  pub nine : lay .at3 ≤ lay .at9
+  pub plan8 : Plan 25 11 1 (lay .trits) (lay .at8) l
+  plan8 = record { trytewise = refl; steps = lit< tt; fans = lit< tt; widths = λ a b. refl; room = omega (arith, offsets, sized .size-of 7) }
 
-pub behind : {trits H : List ℕ} {lay : Layout} {buffer : List ℕ} → LaidOut trits H lay buffer → Behind lay
-behind d = let o = offsets d in record { five = omega arith; six = omega arith; seven = omega arith; eight = omega arith; nine = omega arith }
+  -- section 6 counts from place 0
+  pub samples-put : {a b r : List ℕ} → a ≡ putAt l (lay .at6 - 4) (written (sampled 65725 2 4 trits ∷ [])) → b ≡ putAt a (lay .at7 - 4) (written (section7 trits H ∷ []))
+      → r ≡ putAt b (lay .at8 - 4) (written (section8 trits H ∷ [])) → r ≡ putAt l (lay .at6 - 4) (written (section6 trits H ∷ section7 trits H ∷ section8 trits H ∷ []))
+  unfolding section6
+  samples-put {a} {b} {r} ea eb er =
+      let o = offsets in
+      let far : sampled 65725 2 4 trits ≡ section6 trits H = λ i. record { entries = length trits / 65725 + 1; contents = bytes 4 (far-pairs trits (d .proper .length-high) i) } in
+      let six : Puts (lay .at6) (section6 trits H ∷ []) l a =
+      record { counted = omega arith; inside = omega arith; is = ea ∙ ap (λ (s : Section). putAt l (lay .at6 - 4) (written (s ∷ []))) far } in
+      let seven : Puts (lay .at7) (section7 trits H ∷ []) a b = record { counted = omega arith; inside = omega (arith, puts-size six); is = eb } in
+      let eight : Puts (lay .at8) (section8 trits H ∷ []) b r = record { counted = omega arith; inside = omega (arith, puts-size six, puts-size seven); is = er } in
+      puts-behind (puts-behind six seven (omega arith)) eight (omega arith) .is
 
--- ---- the levels of samples
+  -- ---- all sections
+
+  pub all-put : {a b c r : List ℕ} → a ≡ putAt l 0 (front trits H)
+      → b ≡ putAt (putAt a (lay .at3 - 4) (written (section3 trits H ∷ section4 trits H ∷ []))) (lay .at9 - 4) (written (section9 trits H ∷ []))
+      → c ≡ putAt b (lay .at6 - 4) (written (section6 trits H ∷ section7 trits H ∷ section8 trits H ∷ [])) → r ≡ putAt c (lay .at5 - 4) (written (section5 trits H ∷ []))
+      → r ≡ over (image trits H) l
+  unfolding image given
+  all-put {a} {b} {c} {r} ea eb ec er =
+      let o = offsets in
+      let m : List ℕ = putAt a (lay .at3 - 4) (written (section3 trits H ∷ section4 trits H ∷ [])) in
+      let one : Puts 4 (section1 trits H ∷ section2 trits H ∷ []) l a = record { counted = omega arith; inside = omega arith; is = ea } in
+      let three : Puts (lay .at3) (section3 trits H ∷ section4 trits H ∷ []) a m = record { counted = omega arith; inside = omega (arith, puts-size one); is = refl } in
+      let fore = puts-behind one three (omega arith) in
+      let nine : Puts (lay .at9) (section9 trits H ∷ []) m b = record { counted = omega arith; inside = omega (arith, puts-size fore); is = eb } in
+      let six : Puts (lay .at6) (section6 trits H ∷ section7 trits H ∷ section8 trits H ∷ []) b c =
+      record { counted = omega arith; inside = omega (arith, puts-size fore, puts-size nine); is = ec } in
+      let aft = puts-ahead nine six (omega arith) in
+      let five : Puts (lay .at5) (section5 trits H ∷ []) c r = record { counted = omega arith; inside = omega (arith, puts-size fore, puts-size aft); is = er } in
+      puts-behind fore (puts-ahead aft five (omega arith)) (omega arith) .is ∙ ap (λ (k : ℕ). image trits H ++ drop k l) (zero-add (length (image trits H)))
 
 pub plan-stays : {step fan width L at : ℕ} {l m : List ℕ} → Plan step fan width L at l → length m ≡ length l → Plan step fan width L at m
 plan-stays p e = record { trytewise = p .trytewise; steps = p .steps; fans = p .fans; widths = p .widths; room = rw e (p .room) }
-
-module _ {trits H : List ℕ} {lay : Layout} {l : List ℕ} (d : LaidOut trits H lay l) where
-  pub plan6 : Plan 65725 2 4 (lay .trits) (lay .at6) l
-  plan6 = record { trytewise = refl; steps = lit< tt; fans = lit< tt; widths = λ a b. absurd (a refl); room = omega (arith, spans d .six, sized d .size6) }
-
-  pub plan7 : Plan 275 239 2 (lay .trits) (lay .at7) l
-  plan7 = record { trytewise = refl; steps = lit< tt; fans = lit< tt; widths = λ a b. absurd (b refl); room = omega (arith, spans d .seven, sized d .size7) }
-
-  pub plan8 : Plan 25 11 1 (lay .trits) (lay .at8) l
-  plan8 = record { trytewise = refl; steps = lit< tt; fans = lit< tt; widths = λ a b. refl; room = omega (arith, spans d .eight, sized d .size8) }
-
--- ---- what each function puts
-
-module _ {trits H : List ℕ} {lay : Layout} {l : List ℕ} (d : LaidOut trits H lay l) where
-  abbrev s1 : Section
-  s1 = section1 trits H
-
-  abbrev s2 : Section
-  s2 = section2 trits H
-
-  abbrev s3 : Section
-  s3 = section3 trits H
-
-  abbrev s4 : Section
-  s4 = section4 trits H
-
-  abbrev s5 : Section
-  s5 = section5 trits H
-
-  abbrev s6 : Section
-  s6 = section6 trits H
-
-  abbrev s7 : Section
-  s7 = section7 trits H
-
-  abbrev s8 : Section
-  s8 = section8 trits H
-
-  abbrev s9 : Section
-  s9 = section9 trits H
-
-  pub walk-put : {a b c r : List ℕ} → a ≡ putAt l 0 (leBytes 4 (lay .trits)) → b ≡ putAt a (lay .at1) (s1 .contents) → c ≡ putAt b (lay .at2 - 4) (leBytes 4 (lay .shadows))
-      → r ≡ putAt c (lay .at2) (s2 .contents) → r ≡ putAt l 0 (front trits H)
-  walk-put ea eb ec er =
-      let o = offsets d in
-      put-on 0 (lay .at2 - 4) (lay .at2) (lay .shadows) l (s1 ∷ []) s2 (omega arith) (omega arith) (omega arith) (sized d .count2)
-      (put-section 0 (lay .at1) (lay .trits) l s1 (omega arith) (o .at1-is) (sized d .count1) ea eb) ec er
-
-  pub marks-put : {a b c e f r : List ℕ} → a ≡ putAt l (lay .at3 - 4) (leBytes 4 (lay .nodes)) → b ≡ putAt a (lay .at3) (s3 .contents)
-      → c ≡ putAt b (lay .at4 - 4) (leBytes 4 (lay .marked + 1)) → e ≡ putAt c (lay .at4) (s4 .contents)
-      → f ≡ putAt e (lay .at9 - 4) (leBytes 4 (up (lay .nodes) 64)) → r ≡ putAt f (lay .at9) (s9 .contents)
-      → r ≡ putAt (putAt l (lay .at3 - 4) (written (s3 ∷ s4 ∷ []))) (lay .at9 - 4) (written (s9 ∷ []))
-  marks-put {e = e} ea eb ec ee ef er =
-      let o = offsets d in
-      let first : e ≡ putAt l (lay .at3 - 4) (written (s3 ∷ s4 ∷ [])) =
-      put-on (lay .at3 - 4) (lay .at4 - 4) (lay .at4) (lay .marked + 1) l (s3 ∷ []) s4 (omega arith) (omega arith) (omega arith) (sized d .count4)
-      (put-section (lay .at3 - 4) (lay .at3) (lay .nodes) l s3 (omega arith) (omega arith) (sized d .count3) ea eb) ec ee in
-      rw first at
-      (put-section (lay .at9 - 4) (lay .at9) (up (lay .nodes) 64) e s9 (omega (arith, length-sections (lay .at3 - 4) l (s3 ∷ s4 ∷ []) (omega arith) first)) (omega arith) (sized d .count9) ef er)
-
-  -- section 6 counts from place 0
-  far-put : (a b : List ℕ) → b ≡ putAt a (lay .at6) (bytes 4 (pairs 65725 (lastMultiple (65725 * 2)) trits)) → b ≡ putAt a (lay .at6) (s6 .contents)
-  unfolding section6
-  far-put a b e = e ∙ ap (λ (xs : List ℕ). putAt a (lay .at6) (bytes 4 xs)) (far-pairs trits (d .proper .length-high))
-
-  pub samples-put : {a b c e f r : List ℕ} → a ≡ putAt l (lay .at6 - 4) (leBytes 4 (lay .trits / 65725 + 1)) → b ≡ putAt a (lay .at6) (bytes 4 (pairs 65725 (lastMultiple (65725 * 2)) trits))
-      → c ≡ putAt b (lay .at7 - 4) (leBytes 4 (lay .trits / 275 + 1)) → e ≡ putAt c (lay .at7) (s7 .contents)
-      → f ≡ putAt e (lay .at8 - 4) (leBytes 4 (lay .trits / 25 + 1)) → r ≡ putAt f (lay .at8) (s8 .contents)
-      → r ≡ putAt l (lay .at6 - 4) (written (s6 ∷ s7 ∷ s8 ∷ []))
-  samples-put {a} {b} ea eb ec ee ef er =
-      let o = offsets d in
-      put-on (lay .at6 - 4) (lay .at8 - 4) (lay .at8) (lay .trits / 25 + 1) l (s6 ∷ s7 ∷ []) s8 (omega arith) (omega arith) (omega arith) (sized d .count8)
-      (put-on (lay .at6 - 4) (lay .at7 - 4) (lay .at7) (lay .trits / 275 + 1) l (s6 ∷ []) s7 (omega arith) (omega arith) (omega arith) (sized d .count7)
-      (put-section (lay .at6 - 4) (lay .at6) (lay .trits / 65725 + 1) l s6 (omega arith) (omega arith) (sized d .count6) ea (far-put a b eb)) ec ee) ef er
-
-  pub places-put : {a r : List ℕ} → a ≡ putAt l (lay .at5 - 4) (leBytes 4 (lay .shadows)) → r ≡ putAt a (lay .at5) (s5 .contents) → r ≡ putAt l (lay .at5 - 4) (written (s5 ∷ []))
-  places-put ea er = let o = offsets d in put-section (lay .at5 - 4) (lay .at5) (lay .shadows) l s5 (omega arith) (omega arith) (sized d .count5) ea er
-
-  -- and all of them
-  pub all-put : {a b c r : List ℕ} → a ≡ putAt l 0 (front trits H) → b ≡ putAt (putAt a (lay .at3 - 4) (written (s3 ∷ s4 ∷ []))) (lay .at9 - 4) (written (s9 ∷ []))
-      → c ≡ putAt b (lay .at6 - 4) (written (s6 ∷ s7 ∷ s8 ∷ [])) → r ≡ putAt c (lay .at5 - 4) (written (s5 ∷ [])) → r ≡ over (image trits H) l
-  unfolding image given
-  all-put {a} {b} {c} {r} ea eb ec er =
-      let o = offsets d in
-      let m : List ℕ = putAt a (lay .at3 - 4) (written (s3 ∷ s4 ∷ [])) in
-      let em : m ≡ putAt l 0 (written (s1 ∷ s2 ∷ s3 ∷ s4 ∷ [])) = sections-behind 0 (lay .at3 - 4) l (s1 ∷ s2 ∷ []) (s3 ∷ s4 ∷ []) (omega arith) (omega arith) ea refl in
-      let n : length m ≡ length l = length-sections 0 l (s1 ∷ s2 ∷ s3 ∷ s4 ∷ []) (omega arith) em in
-      let e6 : c ≡ putAt m (lay .at6 - 4) (written (s6 ∷ s7 ∷ s8 ∷ s9 ∷ [])) =
-      sections-ahead (lay .at6 - 4) (lay .at9 - 4) m (s6 ∷ s7 ∷ s8 ∷ []) (s9 ∷ []) (omega arith) (omega arith) eb ec in
-      let e5 : r ≡ putAt m (lay .at5 - 4) (written (s5 ∷ s6 ∷ s7 ∷ s8 ∷ s9 ∷ [])) =
-      sections-ahead (lay .at5 - 4) (lay .at6 - 4) m (s5 ∷ []) (s6 ∷ s7 ∷ s8 ∷ s9 ∷ []) (omega arith) (omega arith) e6 er in
-      sections-behind 0 (lay .at5 - 4) l (s1 ∷ s2 ∷ s3 ∷ s4 ∷ []) (s5 ∷ s6 ∷ s7 ∷ s8 ∷ s9 ∷ []) (omega arith) (omega arith) em e5
-      ∙ ap (λ (k : ℕ). written (all trits H) ++ drop k l) (zero-add (length (written (all trits H))))
 
 -- ---- sections 1 and 2 stand
 
@@ -380,19 +231,18 @@ module _ {trits H : List ℕ} {lay : Layout} {l : List ℕ} (s : Started trits H
   abbrev o : Offsets trits H lay (length l)
   o = offsets (s .laid)
 
-  pub trits-at : (at : ℕ) → lay .at3 ≤ at + 4 → TritsAt trits l (lay .at1) (lay .at1 + up (lay .trits) 5) at
+  pub trits-at : (at : ℕ) → lay .at3 ≤ at + 4 → TritsAt trits l (lay .at1) (lay .at2 - 4) at
   unfolding section1 section2
   trits-at at h =
-      let z = sized (s .laid) .size1 in
-      let k : lay .at1 + up (lay .trits) 5 - lay .at1 ≡ up (lay .trits) 5 = omega arith in
+      let k : length (trytes trits) ≡ lay .at2 - 4 - lay .at1 = omega (arith, o .at2-is) in
       record {
-        rises = omega arith;
-        before = omega (arith, o .at2-is, o .at3-is);
+        rises = omega (arith, o .at2-is);
+        before = omega (arith, o .at3-is);
         trits-in = record {
           threes = s .laid .proper .threes;
           few = s .laid .proper .length-high;
-          trytes-are = part-of l (leBytes 4 (length trits)) (trytes trits) _ (length (front trits H)) (lay .at1) (lay .at1 + up (lay .trits) 5 - lay .at1) (s .stands)
-              (length-digits 256 4 (length trits) ∙ sym (o .at1-is)) (z ∙ sym k);
+          trytes-are = part-of l (leBytes 4 (length trits)) (trytes trits) _ (length (front trits H)) (lay .at1) (lay .at2 - 4 - lay .at1) (s .stands)
+              (length-digits 256 4 (length trits) ∙ sym (o .at1-is)) k;
         };
       }
 
@@ -416,17 +266,22 @@ module _ {trits H : List ℕ} {lay : Layout} {l : List ℕ} (s : Started trits H
       → m ≡ putAt (putAt l (lay .at3 - 4) (written (section3 trits H ∷ section4 trits H ∷ []))) (lay .at9 - 4) (written (section9 trits H ∷ [])) → Started trits H lay m
   stays-marks same e =
       let x = o in
-      let vs : List Section = section3 trits H ∷ section4 trits H ∷ [] in
-      let n : length (putAt l (lay .at3 - 4) (written vs)) ≡ length l = length-sections (lay .at3 - 4) l vs (omega arith) refl in
-      stays (stays s (lay .at3 - 4) (written vs) (omega arith) (omega arith) n refl) (lay .at9 - 4) (written (section9 trits H ∷ [])) (omega arith) (omega arith) (same ∙ sym n) e
+      let ss : List Section = section3 trits H ∷ section4 trits H ∷ [] in
+      let three : Puts (lay .at3) ss l (putAt l (lay .at3 - 4) (written ss)) = record { counted = omega arith; inside = omega arith; is = refl } in
+      let n = puts-size three in
+      stays (stays s (lay .at3 - 4) (written ss) (omega arith) (omega arith) n refl) (lay .at9 - 4) (written (section9 trits H ∷ [])) (omega arith) (omega arith) (same ∙ sym n) e
 
-  -- section 5 can be put
-  pub is-ready : (next : List ℕ) → length next ≡ lay .nodes → FirstIndices trits H next → Ready trits H next (lay .at5) l
-  is-ready next n f = record {
-    nodewise = n ∙ sized (s .laid) .nodes-are;
-    firsts = λ i h. f i (omega (arith, sized (s .laid) .nodes-are));
-    room = omega (arith, spans (s .laid) .five, sized (s .laid) .size5, sized (s .laid) .shadows-are);
-  }
+-- section 5 can be put when its count is
+pub places-ready : {trits H : List ℕ} {lay : Layout} {l : List ℕ} → Started trits H lay l → (vs : List ℕ) {m next : List ℕ} → length m ≡ length l → m ≡ putAt l (lay .at5 - 4) vs
+    → length next ≡ nodeCount trits → FirstIndices trits H next → TritsAt trits m (lay .at1) (lay .at2 - 4) (lay .at5) × ShadowsAt trits H m (lay .at2) (lay .at5) × Ready trits H next (lay .at5) m
+places-ready {lay = lay} s vs same e n f =
+    let x = offsets (s .laid) in
+    let t = stays s (lay .at5 - 4) vs (omega arith) (omega arith) same e in
+    let z = sized (s .laid) in (
+      trits-at t (lay .at5) (omega arith),
+      shadows-at t (lay .at5) (omega arith),
+      record { nodewise = n; firsts = λ i h. f i (omega arith); room = omega (arith, z .size-of 4) },
+    )
 
 -- ---- a walked table
 
@@ -485,12 +340,12 @@ uses-in {trits} {H} {lay} d k work ek e =
       entries = shadow-nodes trits H (p .paired) (p .seen);
     })
 
--- where the uses stood and the first indices came back, as come back at last
-pub ends-over : {trits H : List ℕ} {lay : Layout} {buffer : List ℕ} → LaidOut trits H lay buffer → (k : ℕ) (firsts ends work : List ℕ) {uses : List ℕ} → k ≡ lay .nodes
-    → uses ≡ over (usesOf (lay .nodes) H) work → length firsts ≡ k → ends ≡ groupEnds trits H → ends ++ drop k (firsts ++ drop k uses) ≡ over (groupEnds trits H) work
+-- the part with the uses, come back
+pub ends-over : {trits H : List ℕ} {lay : Layout} {buffer : List ℕ} → LaidOut trits H lay buffer → (k : ℕ) (work : List ℕ) {uses ends : List ℕ} → k ≡ lay .nodes
+    → uses ≡ over (usesOf (lay .nodes) H) work → ends ≡ groupEnds trits H → ends ++ drop k uses ≡ over (groupEnds trits H) work
 unfolding usesOf
-ends-over {trits} {H} {lay} d k firsts ends work {uses} ek eu ef ee =
+ends-over {trits} {H} {lay} d k work ek eu ee =
     let us : List ℕ = usesOf (lay .nodes) H in
     let n : length us ≡ k = length-each (lay .nodes) _ ∙ sym ek in
     let m : length us ≡ length (groupEnds trits H) = n ∙ ek ∙ sized d .nodes-are ∙ sym (length-ends trits H) in
-    rw (ee, drop-at firsts (drop k uses) k ef, eu, drop-at us _ k n, m)
+    rw (ee, eu, drop-at us _ k n, m)

@@ -1,10 +1,11 @@
 -- `image::put_samples` meets its contract: three levels, one behind the other. Assumes nothing.
-use mathlib.Core.Path.{refl, sym, subst}
+use native.Mathlib.Omega.{arith}
+use mathlib.Core.Path.{sym, subst}
 use borrow.Author.Needs.{needs}
 use Rattle.format.specs.Image.{section7, section8}
 use Rattle.format.proofs.Tryte.{tryte-entry}
 use Rattle.samples.specs.Lent.{Rule}
-use Rattle.packing.proofs.ImageLaws.{behind, plan6, plan7, plan8, samples-put}
+use Rattle.packing.proofs.ImageLaws.{offsets, plan6, plan7, plan8, samples-put}
 use Rattle.packing.proofs.image.put_samples.Statement.{statement}
 use Rattle.packing.proofs.image.put_samples.Tie as tie
 
@@ -15,7 +16,7 @@ put-level-requires : tie.Need-put-level-requires
 put-level-requires c κs =
     let table = c .before .before in
     let p = table .before .before .pre in
-    (p .0, p .1, p .2, plan6 (p .2 .laid), behind (p .2 .laid) .six, rule table)
+    (p .0, p .1, p .2, plan6 (p .2 .laid), omega (arith, offsets (p .2 .laid)), rule table)
 
 put-level-requires-2 : tie.Need-put-level-requires-2
 put-level-requires-2 c κs =
@@ -23,7 +24,7 @@ put-level-requires-2 c κs =
     let table = six .before .before .before in
     let p = table .before .before .pre in
     let s = six .put-level .ensures (p .0) (p .1) (p .2) .1 in
-    (p .0, p .1, s, plan7 (s .laid), behind (s .laid) .seven, rule table)
+    (p .0, p .1, s, plan7 (s .laid), omega (arith, offsets (s .laid)), rule table)
 
 put-level-requires-3 : tie.Need-put-level-requires-3
 put-level-requires-3 c κs =
@@ -32,7 +33,7 @@ put-level-requires-3 c κs =
     let table = six .before .before .before in
     let p = table .before .before .pre in
     let s = seven .put-level2 .ensures (p .0) (p .1) (six .put-level .ensures (p .0) (p .1) (p .2) .1) .1 in
-    (p .0, p .1, s, plan8 (s .laid), behind (s .laid) .eight, rule table)
+    (p .0, p .1, s, plan8 (s .laid), omega (arith, offsets (s .laid)), rule table)
 
 returns : tie.Need-returns
 unfolding section7 section8
@@ -44,7 +45,7 @@ returns c =
     let a = six .put-level .ensures trits H s in
     let b = seven .put-level2 .ensures trits H (a .1) in
     let e = eight .put-level3 .ensures trits H (b .1) in
-    samples-put (s .laid) refl (a .0) refl (b .0) refl (e .0)
+    samples-put (s .laid) (a .0) (b .0) (e .0)
 
 pub put-samples-spec : {M : Type 1} → statement M
 put-samples-spec = tie.close (tie.spec (λ c κs. search needs) put-level-requires put-level-requires-2 put-level-requires-3 (λ c. search needs) returns)
