@@ -8,7 +8,7 @@ use mathlib.Core.List.{List, [], _∷_, _++_, append-nil, append-assoc, map}
 use lib.Dec.{T, eqb, eqb-refl, lit<}
 use lib.ListN.{length, getD, take, drop, length-append, take-append-drop}
 use lib.Seq.{drop-drop, drop-at, take-at, take-append-le, take-take, length-take-le}
-use Rattle.format.specs.Lists.{over, countIn}
+use Rattle.format.specs.Lists.{over, up, countIn}
 use Rattle.format.specs.Table.{Graph, nodes}
 use Rattle.format.specs.Level.{walk, levelOrder, reached, Counts}
 use Rattle.format.specs.Trits.{trytes}
@@ -59,9 +59,13 @@ put-section at x l s h h′ ex e e′ = record {
   is = rw (append-nil (s .contents)) (put-more (at - 4) at l (leBytes 4 (s .entries)) (s .contents) (omega arith) (rw length-digits (omega arith)) (rw (← ex) e) e′);
 }
 
--- the contents in a part that was lent, up to `end`
-pub put-part : (at end x : ℕ) (l : List ℕ) (s : Section) {m part : List ℕ} → 4 ≤ at → end ≡ at + length (s .contents) → end ≤ length l → x ≡ s .entries → m ≡ putAt l (at - 4) (leBytes 4 x)
-    → part ≡ s .contents → Puts at (s ∷ []) l (take at m ++ (part ++ drop (end - at) (drop at m)))
+-- m after its part from `at` up to `end` was lent and came back as vs
+abbrev pub lent : ℕ → ℕ → List ℕ → List ℕ → List ℕ
+lent at end m vs = take at m ++ (vs ++ drop (end - at) (drop at m))
+
+-- the contents in a part that was lent
+put-part : (at end x : ℕ) (l : List ℕ) (s : Section) {m vs : List ℕ} → 4 ≤ at → end ≡ at + length (s .contents) → end ≤ length l → x ≡ s .entries → m ≡ putAt l (at - 4) (leBytes 4 x)
+    → vs ≡ s .contents → Puts at (s ∷ []) l (lent at end m vs)
 put-part at end x l s h ee h′ ex em is =
     let k : end - at ≡ length (s .contents) = omega arith in
     put-section at x l s h (omega arith) ex em (rw (is, k, drop-drop, append-assoc))
@@ -118,6 +122,16 @@ pub record Offsets (trits H : List ℕ) (lay : Layout) (room : ℕ) : Type 0 whe
   pub at9-is : lay .at9 ≡ lay .at8 + length (section8 trits H .contents) + 4
   pub ends : lay .at9 + length (section9 trits H .contents) ≤ room
 
+-- each section's contents start in the buffer, behind their count
+pub record Within (lay : Layout) (room : ℕ) : Type 0 where
+  pub one : 4 ≤ lay .at1
+  pub two : lay .at1 + 4 ≤ lay .at2
+  pub three : lay .at2 + 4 ≤ lay .at3
+  pub four : lay .at3 + 4 ≤ lay .at4
+  pub five : lay .at4 + 4 ≤ lay .at5
+  pub nine : lay .at5 ≤ lay .at9
+  pub ends : lay .at9 + 2 * up (lay .nodes) 64 ≤ room
+
 -- of the layout itself
 module _ (trits H : List ℕ) (c : ℕ) (p : ProperTrits trits H) where
   abbrev own : Layout
@@ -154,7 +168,36 @@ module _ {trits H : List ℕ} {lay : Layout} {l : List ℕ} (d : LaidOut trits H
   pub offsets : Offsets trits H lay (length l)
   offsets = subst (λ (x : Layout). Offsets trits H x (length l)) (sym (d .is)) (offsets-of trits H (lay .roots) (d .proper) (length l) (d .room))
 
-  -- ---- the levels of samples
+  pub within : Within lay (length l)
+  within =
+      let o = offsets in
+      record { one = omega arith; two = omega arith; three = omega arith; four = omega arith; five = omega arith; nine = omega arith; ends = omega (arith, sized .size-of 8) }
+
+  -- ---- what each function puts
+
+  pub walk-put : {a b us vs : List ℕ} → a ≡ putAt l (lay .at1 - 4) (leBytes 4 (lay .trits)) → us ≡ section1 trits H .contents
+      → b ≡ putAt (lent (lay .at1) (lay .at2 - 4) a us) (lay .at2 - 4) (leBytes 4 (lay .shadows)) → vs ≡ section2 trits H .contents
+      → lent (lay .at2) (lay .at3 - 4) b vs ≡ putAt l 0 (front trits H)
+  unfolding section1 section2
+  walk-put ea eu eb ev =
+      let o = offsets in
+      let one = put-part (lay .at1) (lay .at2 - 4) (lay .trits) l (section1 trits H) (omega arith) (omega arith) (omega arith) (sized .trits-are) ea eu in
+      let two = put-part (lay .at2) (lay .at3 - 4) (lay .shadows) _ (section2 trits H) (omega arith) (omega arith) (omega (arith, puts-size one)) (sized .shadows-are) eb ev in
+      puts-first (puts-behind one two (omega arith)) (o .at1-is)
+
+  pub marks-put : {a b c us vs ws : List ℕ} → a ≡ putAt l (lay .at3 - 4) (leBytes 4 (lay .nodes)) → us ≡ section3 trits H .contents
+      → b ≡ putAt (lent (lay .at3) (lay .at4 - 4) a us) (lay .at4 - 4) (leBytes 4 (lay .marked + 1)) → vs ≡ section4 trits H .contents
+      → c ≡ putAt (lent (lay .at4) (lay .at5 - 4) b vs) (lay .at9 - 4) (leBytes 4 (up (lay .nodes) 64)) → ws ≡ section9 trits H .contents
+      → lent (lay .at9) (lay .at9 + 2 * up (lay .nodes) 64) c ws ≡ putAt (putAt l (lay .at3 - 4) (written (section3 trits H ∷ section4 trits H ∷ []))) (lay .at9 - 4) (written (section9 trits H ∷ []))
+  unfolding section3 section4 section9
+  marks-put ea eu eb ev ec ew =
+      let o = offsets in
+      let z = sized .size-of 8 in
+      let three = put-part (lay .at3) (lay .at4 - 4) (lay .nodes) l (section3 trits H) (omega arith) (omega arith) (omega arith) (sized .nodes-are) ea eu in
+      let four = put-part (lay .at4) (lay .at5 - 4) (lay .marked + 1) _ (section4 trits H) (omega arith) (omega arith) (omega (arith, puts-size three)) (omega (arith, sized .marked-are)) eb ev in
+      let both = puts-behind three four (omega arith) in
+      let nine = put-part (lay .at9) (lay .at9 + 2 * up (lay .nodes) 64) (up (lay .nodes) 64) _ (section9 trits H) (omega arith) (omega arith) (omega (arith, puts-size both)) (omega (arith, sized .nodes-are)) ec ew in
+      rw (both .is) at (nine .is)
 
   pub plan6 : Plan 65725 2 4 (lay .trits) (lay .at6) l
   plan6 = record { trytewise = refl; steps = lit< tt; fans = lit< tt; widths = λ a b. absurd (a refl); room = omega (arith, offsets, sized .size-of 5) }

@@ -3,7 +3,7 @@ use native.Mathlib.Omega.{arith}
 use mathlib.Core.Path.{sym, _∙_}
 use borrow.Author.Needs.{needs}
 use Rattle.format.specs.Image.{section5}
-use Rattle.packing.proofs.ImageLaws.{sized, offsets, places-ready, put-section}
+use Rattle.packing.proofs.ImageLaws.{sized, offsets, within, places-ready, put-section}
 use Rattle.packing.proofs.image.put_places.Statement.{statement}
 use Rattle.packing.proofs.image.put_places.Tie as tie
 
@@ -39,9 +39,9 @@ put-places-spec =
     tie.close
     (tie.spec
     (λ c κs. let p = c .before .before .before .pre in (p .0, p .1, p .3, omega (arith, p .2 .laid .few)))
-    (λ c. omega (arith, offsets (start (c .before .before .before) .pre .2 .laid)))
-    (λ c. omega (arith, offsets (start (c .before .before .before .before) .pre .2 .laid)))
-    (λ c κs. omega (arith, offsets (start (c .before .before .before .before) .pre .2 .laid)))
+    (λ c. omega (arith, within (start (c .before .before .before) .pre .2 .laid)))
+    (λ c. omega (arith, within (start (c .before .before .before .before) .pre .2 .laid)))
+    (λ c κs. omega (arith, within (start (c .before .before .before .before) .pre .2 .laid)))
     put-places-requires
     (λ c. search needs)
     (λ c. search needs)
