@@ -51,6 +51,7 @@ impl Cases {
     /// every buffer, guards before and after the lent part included.
     fn part(&mut self, words: &[u16], len: usize, room: Room) -> Result<Packed, u32> {
         let table = &words[..len];
+        let words_before = words.to_vec();
         let expected = plain::pack_into(table, room.order, room.work, room.image);
         self.run += 1;
         let refusal = expected.as_ref().err().copied().unwrap_or(0);
@@ -96,6 +97,12 @@ impl Cases {
         assert!(order == order_after, "order list: {}", case());
         assert!(work == work_after, "work: {}", case());
         assert!(image == image_after, "image: {}", case());
+        // A shared slice: black_box, or the compiler may take it as unchanged.
+        assert!(
+            std::hint::black_box(words) == words_before,
+            "words changed: {}",
+            case()
+        );
         expected
     }
 
