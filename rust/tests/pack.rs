@@ -112,13 +112,15 @@ impl Cases {
         self.part(&words, table.len(), room)
     }
 
-    /// A table with just the room it calls for, or up to three more of each.
+    /// A table with just the room it calls for, or up to three more of each, or
+    /// up to 199 more.
     fn enough(&mut self, table: &[u16]) -> Result<Packed, u32> {
         let mut room = need(table);
         if !self.run.is_multiple_of(3) {
-            room.order += self.rng.below(4);
-            room.work += self.rng.below(4);
-            room.image += self.rng.below(4);
+            let more = if self.run.is_multiple_of(8) { 200 } else { 4 };
+            room.order += self.rng.below(more);
+            room.work += self.rng.below(more);
+            room.image += self.rng.below(more);
         }
         self.table(table, room)
     }
