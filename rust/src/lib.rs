@@ -2,7 +2,7 @@
 //! graphs in the GLOUDS form. Tables, images, questions and refusal numbers are
 //! those of document 01.
 //!
-//! Each function is a feature, off until the library has it. `cargo test --release`
+//! Each function is a feature, off until the library has it. `cargo test`
 //! tests the independent side, `glouds::plain`, on document 01's cases; with
 //! `--features pack` and `GLOUDS_LIB_DIR=folder` it also tests the libglouds.a in
 //! that folder against it, and `cargo run --release --features pack --bin bench`
