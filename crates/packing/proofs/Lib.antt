@@ -7,6 +7,7 @@ pub mod HeldLaws
 pub mod RunLaws
 pub mod TurnLaws
 pub mod StreamLaws
+pub mod CursorLaws
 pub mod SectionLaws
 pub mod PackLaws
 pub mod ImageLaws

@@ -7,7 +7,7 @@ use native.Mathlib.Numerals.{add-one}
 use native.Mathlib.Omega.{arith}
 use lib.ListN.{length, getD, take, drop, length-append, length-drop, take-append-drop, drop-of-length-le}
 use lib.Seq.{take-suc, drop-cons, getD-drop, drop-append-seam, take-append-seam, drop-drop}
-use Rattle.format.specs.Table.{Graph, nodes, operandsOf, counted, listWords, words, WellFormed, WithinLimits}
+use Rattle.format.specs.Table.{Graph, nodes, operandsOf, Node, counted, listWords, words, WellFormed, WithinLimits}
 use Rattle.format.proofs.Reading.{words-read}
 use Rattle.packing.specs.Work.{graphOf, Sized, startOf, runAt}
 use Rattle.packing.proofs.ScanLaws.{length-runs}
@@ -88,3 +88,9 @@ module _ {t : List ℕ} {n : ℕ} (s : Sized t n) where
   pub roots-run : Run t (startOf g n) (g .roots)
   unfolding listWords
   roots-run = run-here n (g .roots) [] (rw (drop-of-length-le (g .operands) {i = n} (omega (arith, s .many)), append-nil) refl)
+
+  -- a node's operands end where the next count stands
+  pub operands-end : (v : ℕ) → Node n v → (at : ℕ) → at ≡ startOf g (v - 1) → at + 1 + getD t at 0 ≡ startOf g v
+  operands-end v h at e =
+      let k : v - 1 + 1 ≡ v = omega (arith, h) in
+      rw e (omega (arith, operands-run (v - 1) (omega (arith, h)) .many, start-next g (v - 1) (omega (arith, h, s .many)), ap (startOf g) k))

@@ -3,21 +3,25 @@ use mathlib.Core.Path.{_≡_, refl, sym, ap, _∙_}
 use mathlib.Core.List.{List, [], _∷_, _++_, append-assoc, append-nil, append-cancel-left}
 use Prim.Native.Nat.{ℕ, zero, suc, _+_, _-_, _*_, _%_, _≤_, _<_}
 use native.Mathlib.Nat.{add-zero, add-suc}
-use native.Mathlib.Numerals.{one-add}
+use native.Mathlib.Numerals.{add-one, one-add}
 use native.Mathlib.Omega.{arith}
 use lib.ListN.{length, getD, take, drop, length-append, List·getD-append}
 use lib.Seq.{take-nil, drop-drop}
 use Rattle.format.specs.Lists.{All, numberIn, countIn, horner}
 use Rattle.format.specs.Table.{Graph, nodes, operandsOf, Node}
 use Rattle.format.specs.Level.{Walk, enter, see, seeAll, close, visit, taken, turns, walk}
+use Rattle.format.proofs.Laws.{count-append}
 use Rattle.format.proofs.Places.{number-in, number-new, number-le}
+use Rattle.format.proofs.Outcomes.{length-words}
 use Rattle.format.proofs.Walks.{see-at, see-cases, empty}
-use Rattle.packing.specs.Work.{graphOf, startOf}
-use Rattle.packing.specs.Stream.{Walked, plus, Stands, Rest, Standing, Wrote, Took}
+use Rattle.packing.specs.Work.{graphOf, Sized, startOf}
+use Rattle.packing.specs.Stream.{Walked, plus, rowEnd, Stands, Rest, Standing, Wrote, Took}
 use Rattle.packing.specs.declared.stream.Cursor.{Cursor}
 use Rattle.packing.specs.declared.stream.Next.{Next}
 use Rattle.packing.proofs.ScanLaws.{word-in}
+use Rattle.packing.proofs.RunLaws.{are-words, roots-run, operands-end}
 use Rattle.packing.proofs.HeldLaws.{mark-mod, queued, queued-node}
+use Rattle.packing.proofs.PackLaws.{roots-at}
 use Rattle.packing.proofs.TurnLaws.{Turn, turn-at, turn-first, walk-done}
 
 -- ---- what walks write, one after the other
@@ -79,10 +83,33 @@ onto-walk : (g : Graph) (i : ℕ) → i ≤ nodes g → Onto (turns g i) (walk g
 unfolding walk
 onto-walk g i h = let e : i + (nodes g - i) ≡ nodes g = omega arith in rw e at (onto-turns g i (nodes g - i))
 
+-- ---- where the rows end, and what an operand writes
+
+roots-end : {t : List ℕ} {n : ℕ} → Sized t n → (at : ℕ) → at ≡ startOf (graphOf t) n → at + 1 + getD t at 0 ≡ rowEnd t 0
+unfolding rowEnd
+roots-end {t} s at e = rw e (omega (arith, roots-at s, roots-run s .many, ap length (are-words s), length-words (graphOf t), s .many))
+
+row-end-next : (t : List ℕ) (i v : ℕ) → v ≡ getD (walk (graphOf t) .queue) i 0 → rowEnd t (i + 1) ≡ startOf (graphOf t) v
+unfolding rowEnd
+row-end-next t i v e = rw (add-one i, e) refl
+
+see-zeros : (v : ℕ) (w : Walk) → countIn 0 (see v w .trits) ≡ countIn 0 (w .trits)
+see-zeros v w =
+    see-cases (λ (x : Walk). countIn 0 (x .trits) ≡ countIn 0 (w .trits)) v w (λ e. omega (arith, count-append 0 (w .trits) (1 ∷ []))) (λ k e. omega (arith, count-append 0 (w .trits) (2 ∷ [])))
+
+see-ones : (v : ℕ) (w : Walk) → length (w .queue) ≡ countIn 1 (w .trits) → length (see v w .queue) ≡ countIn 1 (see v w .trits)
+see-ones v w h =
+    see-cases (λ (x : Walk). length (x .queue) ≡ countIn 1 (x .trits)) v w
+    (λ e. omega (arith, count-append 1 (w .trits) (1 ∷ []), length-append (w .queue) (v ∷ []))) (λ k e. omega (arith, count-append 1 (w .trits) (2 ∷ [])))
+
 -- the cursor at the beginning of a row, which ends with turn i
-stands-row : {t : List ℕ} {n at : ℕ} {w : Walk} (i : ℕ) → Turn t n at w (turns (graphOf t) i) → i ≤ n → (j : ℕ) → j ≡ getD t at 0 → (o : ℕ) → o ≡ length (w .queue)
+stands-row : {t : List ℕ} {n at : ℕ} {w : Walk} (i : ℕ) → Turn t n at w (turns (graphOf t) i) → i ≤ n → (j : ℕ) → j ≡ getD t at 0
+    → at + 1 + j ≡ rowEnd t i → i ≡ countIn 0 (w .trits) → (o : ℕ) → o ≡ length (w .queue) → o ≡ countIn 1 (w .trits)
     → Stands t n w (record { i = i; at = at + 1; left = j; ones = o })
-stands-row i u h j ej o eo = record {
+stands-row i u h j ej ee er o eo ew = record {
+  rows = er;
+  reals = ew;
+  ends = λ y. ee;
   ones = eo;
   inside = omega (arith, u .run-in .inside);
   are-nodes = rw ej (u .run-in .are-nodes);
@@ -93,7 +120,12 @@ stands-row i u h j ej o eo = record {
 -- before the first trit
 pub begin : {t : List ℕ} {n : ℕ} {work : List ℕ} → Walked t n work → (at : ℕ) → at ≡ startOf (graphOf t) n → (j : ℕ) → j ≡ getD t at 0
     → Rest t n (walk (graphOf t)) (record { i = 0; at = at + 1; left = j; ones = 0 })
-begin k at ea j ej = record { sofar = empty; stands = stands-row 0 (turn-first (k .sized) at ea) (omega arith) j ej 0 refl; all = refl; twos = k .held .inv .twos }
+begin k at ea j ej = record {
+  sofar = empty;
+  stands = stands-row 0 (turn-first (k .sized) at ea) (omega arith) j ej (rw ej (roots-end (k .sized) at ea)) refl 0 refl refl;
+  all = refl;
+  twos = k .held .inv .twos;
+}
 
 -- ---- one trit
 
@@ -147,8 +179,16 @@ module _ {t : List ℕ} {n : ℕ} {left : Walk} {c : Cursor} (r : Rest t n left 
     onto = onto-trans (rw row (onto-row after (see v so))) (onto-walk g (c .i) (omega (arith, upto, k .sized .many)))
 
     stands-next : (o : ℕ) → o ≡ length (see v so .queue) → Stands t n (see v so) (record { i = c .i; at = c .at + 1; left = c .left - 1; ones = o })
-    stands-next o e =
-        record { ones = e; inside = omega (arith, r .stands .inside); are-nodes = both .1; row = λ h. row; past = λ h. absurd (omega (arith, upto)) }
+    stands-next o e = record {
+      rows = r .stands .rows ∙ sym (see-zeros v so);
+      reals = e ∙ see-ones v so (sym (r .stands .ones) ∙ r .stands .reals);
+      ones = e;
+      inside = omega (arith, r .stands .inside);
+      are-nodes = both .1;
+      row = λ h. row;
+      ends = λ h. omega (arith, r .stands .ends h);
+      past = λ h. absurd (omega (arith, upto));
+    }
 
     pub ones-small : c .ones ≤ n
     ones-small =
@@ -205,6 +245,13 @@ module _ {t : List ℕ} {n : ℕ} {left : Walk} {c : Cursor} (r : Rest t n left 
     ones-end : c .i ≤ n → c .ones ≡ length (turns g (c .i) .queue)
     ones-end h = r .stands .ones ∙ ap (λ (x : Walk). length (x .queue)) (sym (row-end h))
 
+    counts-end : c .i ≤ n → (c .i + 1 ≡ countIn 0 (turns g (c .i) .trits)) × (c .ones ≡ countIn 1 (turns g (c .i) .trits))
+    counts-end h =
+        let w = row-end h in (
+          omega (arith, r .stands .rows, ap (λ (x : Walk). countIn 0 (x .trits)) w, count-append 0 (so .trits) (0 ∷ [])),
+          omega (arith, r .stands .reals, ap (λ (x : Walk). countIn 1 (x .trits)) w, count-append 1 (so .trits) (0 ∷ [])),
+        )
+
     -- the next node, v, is taken
     module _ (h : c .i < n) (v : ℕ) (is : v ≡ getD work (2 * n + c .i) 0) where
       pub taken-node : Node n v
@@ -222,17 +269,24 @@ module _ {t : List ℕ} {n : ℕ} {left : Walk} {c : Cursor} (r : Rest t n left 
           taken-node (ea ∙ k .starts (v - 1) (omega (arith, taken-node)))
 
       pub opened : (at : ℕ) → at ≡ getD work (v - 1) 0 → (j : ℕ) → j ≡ getD t at 0 → Wrote t n 0 [] left (record { i = c .i + 1; at = at + 1; left = j; ones = c .ones })
-      opened at ea j ej = ended _ (omega arith) (stands-row (c .i + 1) (taken-turn at ea) (omega arith) j ej (c .ones) (ones-end (omega arith)))
+      opened at ea j ej =
+          let z = counts-end (omega arith) in
+          let e : at + 1 + j ≡ rowEnd t (c .i + 1) =
+          rw ej (operands-end (k .sized) v taken-node at (ea ∙ k .starts (v - 1) (omega (arith, taken-node)))) ∙ sym (row-end-next t (c .i) v (queued (k .held) (c .i) h v is)) in
+          ended _ (omega arith) (stands-row (c .i + 1) (taken-turn at ea) (omega arith) j ej e (z .0) (c .ones) (ones-end (omega arith)) (z .1))
 
     -- the last zero
     pub last : c .i ≡ n → Wrote t n 0 [] left (record { i = n + 1; at = c .at; left = 0; ones = c .ones })
     unfolding walk
     last e = ended _ (omega arith) (record {
+      rows = omega (arith, counts-end (omega arith) .0);
+      reals = counts-end (omega arith) .1;
       ones = ones-end (omega arith);
       inside = omega (arith, r .stands .inside);
       are-nodes = tt;
       row = λ y. absurd (omega arith);
-      past = λ y. (refl, ap (turns g) (e ∙ sym (k .sized .many)));
+      ends = λ y. absurd (omega arith);
+      past = λ y. (refl, ap (turns g) (e ∙ sym (k .sized .many)), refl, omega (arith, r .stands .ends (omega arith), ap (rowEnd t) e));
     })
 
   pub none-left : n < c .i → (left .trits ≡ []) × (left .shadows ≡ [])

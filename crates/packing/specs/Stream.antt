@@ -1,12 +1,12 @@
 -- What the walk has still to write where a cursor stands. Assumes nothing.
 use mathlib.Core.Path.{_≡_}
 use mathlib.Core.List.{List, [], _∷_, _++_}
-use Prim.Native.Nat.{ℕ, _+_, _≤_, _<_}
-use lib.ListN.{length, take, drop}
+use Prim.Native.Nat.{ℕ, zero, suc, _+_, _≤_, _<_}
+use lib.ListN.{length, getD, take, drop}
 use Rattle.format.specs.Lists.{All, countIn, horner}
 use Rattle.format.specs.Table.{Node}
 use Rattle.format.specs.Level.{Walk, seeAll, close, turns, walk}
-use Rattle.packing.specs.Work.{graphOf, WorkAt}
+use Rattle.packing.specs.Work.{graphOf, startOf, WorkAt}
 use Rattle.packing.specs.declared.stream.Cursor.{Cursor}
 use Rattle.packing.specs.declared.stream.Next.{Next}
 use Rattle.packing.specs.declared.stream.Trit.{Trit}
@@ -20,13 +20,22 @@ Walked table n work = WorkAt table n (walk (graphOf table)) n work
 abbrev pub plus : Walk → Walk → Walk
 plus a b = record { queue = a .queue ++ b .queue; trits = a .trits ++ b .trits; shadows = a .shadows ++ b .shadows }
 
--- the cursor stands where w is written: the rest of its row leads to the walk after i turns; past the last row all is written
+-- where row i ends in the table: row 0 has the roots, the table's last words; row i has the operands of the i-th node of the queue
+unfoldable pub rowEnd : List ℕ → ℕ → ℕ
+rowEnd table zero = length table
+rowEnd table (suc i) = startOf (graphOf table) (getD (walk (graphOf table) .queue) i 0)
+
+-- the cursor stands where w is written: the rest of its row leads to the walk after i turns; past the last row all is written, and it stands where
+-- that row ended
 pub record Stands (table : List ℕ) (n : ℕ) (w : Walk) (c : Cursor) : Type 0 where
+  pub rows : c .i ≡ countIn 0 (w .trits)
+  pub reals : c .ones ≡ countIn 1 (w .trits)
   pub ones : c .ones ≡ length (w .queue)
   pub inside : c .at + c .left ≤ length table
   pub are-nodes : All (Node n) (take (c .left) (drop (c .at) table))
   pub row : c .i ≤ n → turns (graphOf table) (c .i) ≡ close (seeAll (take (c .left) (drop (c .at) table)) w)
-  pub past : n < c .i → (c .left ≡ 0) × (w ≡ walk (graphOf table))
+  pub ends : c .i ≤ n → c .at + c .left ≡ rowEnd table (c .i)
+  pub past : n < c .i → (c .left ≡ 0) × (w ≡ walk (graphOf table)) × (c .i ≡ n + 1) × (c .at ≡ rowEnd table n)
 
 -- and the walk has still to write `left`
 pub record Rest (table : List ℕ) (n : ℕ) (left : Walk) (c : Cursor) : Type 0 where
