@@ -92,6 +92,10 @@ module _ (table order work buffer : List ℕ) where
   packing-kept = promises.packing-kept table order work buffer
 
 -- "The image checker goes section by section: count missing (21), count wrong (for section 1: 22 if too large, 23 if 0), contents missing (21), contents
+  -- and the length returned fits 32 bits
+  pub packing-fits : packOutcome table order work buffer .returned .value < 4294967296
+  packing-fits = ranges.pack-fits table order work buffer
+
 -- wrong. n and m are held to 22 after section 1's own rules. Then 26."
 pub checking-order : (b : List ℕ) → CheckerGives b
 checking-order = steps.checker-gives

@@ -1,4 +1,5 @@
--- The codes that each entry can give, and that every answer on proper trits has a case and fits its words. Assumes nothing.
+-- The codes that each entry can give, that an image's length fits 32 bits, and that every answer on proper trits has a case and fits its words.
+-- Assumes nothing.
 use Prim.Native.Nat.{ℕ, zero, suc, _/_, _%_, _≤_, _<_}
 use native.Mathlib.Omega.{arith}
 use mathlib.Core.Path.{_≡_, refl, sym, subst}
@@ -6,14 +7,15 @@ use mathlib.Core.Logic.{_⊎_, inl, inr}
 use mathlib.Core.Bool.{Bool, true, false}
 use mathlib.Core.Option.{Option, none, some}
 use mathlib.Core.List.{List, [], _∷_, map}
-use lib.Dec.{eqb, leb, ltb, lit≤}
+use lib.Dec.{eqb, leb, ltb, lit≤, lit<}
 use lib.ListN.{length, getElem?, getD, drop}
 use borrow.Author.Tests.{ltb-true}
 use native.Mathlib.Nat.{not-suc-le-zero}
-use Rattle.format.specs.Lists.{All, consIf, keep, numbered, run, Below, join}
+use Rattle.format.specs.Lists.{All, consIf, keep, numbered, run, oneTo, Below, join}
 use Rattle.format.specs.Table.{isNode, words}
 use Rattle.format.specs.Trits.{rank, select}
-use Rattle.format.specs.Image.{nodeCount, edgeCount}
+use Rattle.format.specs.Level.{walk}
+use Rattle.format.specs.Image.{nodeCount, edgeCount, marked, markedNodes, image}
 use Rattle.format.specs.Faults.{fault, _then_}
 use Rattle.format.specs.Proper.{ProperTrits, checkImage, tritsOf, shadowsOf, ImageCode}
 use Rattle.format.specs.Edges.{Edge, isEdge, edgeAt, edgeList, operandEdges, useEdges}
@@ -21,18 +23,19 @@ use Rattle.format.specs.Question.{Reply, refused, plain, within, placeOr
 use Rattle.format.specs.Answers.{Answerable}
 use Rattle.format.specs.Unpack.{unpack, unpackSettled, unpackOutcome}
 use Rattle.format.specs.Batch.{answers, batchRan, batchSettled, tallyHolds, batchFault, batchOutcome, threeWords, BatchOutcome}
-use Rattle.format.specs.Packing.{packOutcome}
+use Rattle.format.specs.Packing.{imageOf, packOutcome}
 use Rattle.format.specs.declared.Answer.the-variants as cases
 use Rattle.format.specs.declared.Sort.the-variants.{Real, Shadow}
 use Rattle.format.specs.declared.Refusal.the-variants.{UnknownKind, FirstOutside, SecondOutside}
 use Rattle.format.specs.declared.Tally.{Tally}
-use Rattle.format.proofs.Laws.{count-le, length-keep}
+use Rattle.format.proofs.Laws.{count-le, length-keep, length-run}
 use Rattle.format.proofs.Places.{all-imp, all-map}
 use Rattle.format.proofs.Select.{select-some}
-use Rattle.format.proofs.CheckLaws.{limits-nodes, image-passed}
+use Rattle.format.proofs.Sizes.{imageLength, length-image}
+use Rattle.format.proofs.CheckLaws.{shadow-nodes, limits-nodes, image-passed}
 use Rattle.format.proofs.Steps.{image-code}
 use Rattle.format.proofs.Facts.{Edged, edge-places, user-node, operand-node, length-edges, operands-le}
-use Rattle.format.proofs.Accepting.{each-all}
+use Rattle.format.proofs.Accepting.{each-all, proper-table}
 use Rattle.format.proofs.Outcomes.{pack-cases}
 use Rattle.format.proofs.Laws.{rank-count}
 use Rattle.format.proofs.FaultLaws.{then-in, fault-in}
@@ -46,6 +49,28 @@ pub pack-codes : (table order work buffer : List ℕ) → packOutcome table orde
 pack-codes table order work buffer =
     pack-cases table order work buffer (λ o. o .returned .code ≤ 9)
     (λ f e l u. omega arith) (λ g e. lit≤ tt) (λ g e w. lit≤ tt) (λ g e w. lit≤ tt) (λ r. lit≤ tt)
+
+-- the longest image has less than 1,000,000 bytes, so a length fits 32 bits
+image-short : (trits H : List ℕ) → ProperTrits trits H → length (image trits H) < 4294967296
+unfolding imageLength markedNodes
+image-short trits H p =
+    omega (
+      arith,
+      length-image trits H (p .paired) (shadow-nodes trits H (p .paired) (p .seen)),
+      p .length-high,
+      p .paired,
+      count-le 2 trits,
+      limits-nodes trits (p .in-limits),
+      length-keep (marked H) (oneTo (nodeCount trits)),
+      length-run 1 (nodeCount trits),
+    )
+
+pub pack-fits : (table order work buffer : List ℕ) → packOutcome table order work buffer .returned .value < 4294967296
+unfolding imageOf
+pack-fits table order work buffer =
+    pack-cases table order work buffer (λ o. o .returned .value < 4294967296)
+    (λ f e l u. lit< tt) (λ g e. lit< tt) (λ g e w. lit< tt) (λ g e w. lit< tt)
+    (λ r. image-short (walk (r .of) .trits) (walk (r .of) .shadows) (proper-table table (r .of) (r .is)))
 
 -- 0, 21 to 26, or 51
 pub unpack-codes : (image buffer : List ℕ) → ImageCode (unpackOutcome image buffer .returned .code) ⊎ (unpackOutcome image buffer .returned .code ≡ 51)
