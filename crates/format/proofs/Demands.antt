@@ -50,7 +50,8 @@ use Rattle.format.proofs.ListingLaws as listings
 use Rattle.format.proofs.CheckLaws as checks
 use Rattle.format.proofs.Determined as determined
 
--- ---- demand 1: every entry ends on every input; bad input gets its number and changes nothing. Packing, in the order of its refusals:
+-- ---- demand 1: every entry ends on every input; bad input gets its number and changes no image, order list, table, answer or tally. Packing, in the
+-- order of its refusals:
 
 -- 1 to 6, "the first fault among 1 to 5 is given, then 6": the number given is that of the first fault, and "all memory is as before"
 pub table-fault : (table : List ℕ) (f : ℕ) → (readTable table ≡ faulty f) ↔ FirstFault table f
@@ -91,11 +92,11 @@ module _ (table order work buffer : List ℕ) where
   pub packing-kept : BuffersKept order work buffer (packOutcome table order work buffer)
   packing-kept = promises.packing-kept table order work buffer
 
--- "The image checker goes section by section: count missing (21), count wrong (for section 1: 22 if too large, 23 if 0), contents missing (21), contents
   -- and the length returned fits 32 bits
   pub packing-fits : packOutcome table order work buffer .returned .value < 4294967296
   packing-fits = ranges.pack-fits table order work buffer
 
+-- "The image checker goes section by section: count missing (21), count wrong (for section 1: 22 if too large, 23 if 0), contents missing (21), contents
 -- wrong. n and m are held to 22 after section 1's own rules. Then 26."
 pub checking-order : (b : List ℕ) → CheckerGives b
 checking-order = steps.checker-gives

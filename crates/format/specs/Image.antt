@@ -151,7 +151,7 @@ pub record ReadBack (trits H : List ℕ) : Type 0 where
   pub back8 : fromBytes 1 (section8 trits H .contents) ≡ pairs 25 (lastMultiple 275) trits
   pub back9 : fromBytes 2 (section9 trits H .contents) ≡ markSamples trits H
 
--- the counts of sections 1 to 9, and each section's contents as long as its count says
+-- section 3 counts the nodes, and each section's contents are as long as its count says
 pub record SectionSizes (trits H : List ℕ) : Type 0 where
   pub count-3 : section3 trits H .entries ≡ nodeCount trits
   pub size-1 : length (section1 trits H .contents) ≡ up (section1 trits H .entries) 5
