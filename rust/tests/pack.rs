@@ -646,6 +646,23 @@ fn damaged(cases: &mut Cases) {
     }
 }
 
+/// Rust's empty slices: their pointers point at nothing.
+#[test]
+fn empty_slices() {
+    let (none, mut order, mut work) = (Vec::new(), Vec::new(), Vec::new());
+    let mut image = Vec::new();
+    assert_eq!(work.as_ptr() as usize, align_of::<u32>());
+    for (table, refusal) in [(&none[..], 1), (&[1, 0, 1, 1], 7), (&[0, 0], 9)] {
+        let result = glouds::pack(table, &mut order, &mut work, &mut image);
+        assert_eq!(result, Err(refusal));
+    }
+    let mut image = vec![7; 56];
+    let result = glouds::pack(&[0, 0], &mut order, &mut work, &mut image);
+    assert_eq!(result, Ok(55));
+    assert_eq!(image[..55], plain::pack(&[0, 0]).unwrap().image);
+    assert_eq!(image[55], 7);
+}
+
 #[test]
 fn beside_the_plain_packer() {
     let mut cases = Cases::new(29);

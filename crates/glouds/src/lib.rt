@@ -1,5 +1,5 @@
 // The entries as C and Rust call them. A slice is a pointer and a length in elements; an answer of two numbers is one word,
-// refusal * 2^32 + value.
+// refusal * 2^32 + value. The proofs assume that lent slices lie apart; one of length 0 may have a dangling pointer.
 ghost use mathlib.Core.Path.{_≡_};
 ghost use Rattle.format.specs.Packing.{packOutcome};
 ghost use Rattle.glouds.specs.Exports.{packExport, packExported};
