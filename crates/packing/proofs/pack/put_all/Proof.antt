@@ -37,12 +37,12 @@ add-size-2 : tie.Need-add-size-2
 add-size-2 c = omega (arith, size-small (start (c .before) .pre) (laid c))
 
 returns : tie.Need-returns
-returns c = uncleared-9 (start (c .before .before) .pre) (laid (c .before)) (c .if1 .taken)
+returns c = uncleared-9 (start (c .before .before) .pre) (laid (c .before)) (omega (arith, c .if1 .taken))
 
 put-image-requires : tie.Need-put-image-requires
 put-image-requires c κs =
     let i = c .before .before .before .before .before .before .before in
-    planned (start (i .before .before) .pre) (laid (i .before)) (i .if1 .left)
+    planned (start (i .before .before) .pre) (laid (i .before)) (omega (arith, i .if1 .left))
 
 returns-2 : tie.Need-returns-2
 returns-2 c =
