@@ -18,51 +18,51 @@ use Rattle.format.proofs.Laws.{run-snoc, keep-append, count-append, count-le}
 use Rattle.format.proofs.Places.{all-append, all-imp, all-at, number-new, getD-number, number-getD, number-le, nodup-snoc}
 use Rattle.format.proofs.Walks.{Inv, see-at, inv-see, inv-close}
 use Rattle.format.proofs.Order.{fits-length}
-use Rattle.packing.specs.Work.{markOf, Held, Holding, Saw}
+use Rattle.packing.specs.Work.{seenWord, Held, Holding, Saw}
 use Rattle.packing.proofs.OverLaws.{Over, over-length, over-behind}
 use Rattle.packing.proofs.NumberLaws.{number-other}
 
--- ---- marks
+-- ---- the word of a node seen
 
-mark-zero : (p : ℕ) (H : List ℕ) → markOf p H ≡ 0 → p ≡ 0
-unfolding markOf
-mark-zero zero H e = refl
-mark-zero (suc k) H e = absurd (omega arith)
+seen-zero : (p : ℕ) (H : List ℕ) → seenWord p H ≡ 0 → p ≡ 0
+unfolding seenWord
+seen-zero zero H e = refl
+seen-zero (suc k) H e = absurd (omega arith)
 
 -- no shadow has a level number that there is not yet
 count-above : (l : ℕ) (H : List ℕ) → All (λ h. h ≤ l) H → countIn (suc l) H ≡ 0
 count-above l [] a = refl
 count-above l (h ∷ H) a = omega (arith, ap bit (ne-eqb h (suc l) (λ e. absurd (omega (arith, a .0)))), count-above l H (a .1))
 
-mark-new : (l : ℕ) (H : List ℕ) → All (λ h. h ≤ l) H → l + 1 ≡ markOf (suc l) H
-unfolding markOf
-mark-new l H a = omega (arith, count-above l H a)
+seen-new : (l : ℕ) (H : List ℕ) → All (λ h. h ≤ l) H → l + 1 ≡ seenWord (suc l) H
+unfolding seenWord
+seen-new l H a = omega (arith, count-above l H a)
 
-mark-more : (k : ℕ) (H : List ℕ) → markOf (suc k) H + 65536 ≡ markOf (suc k) (H ++ suc k ∷ [])
-unfolding markOf
-mark-more k H = omega (arith, count-append (suc k) H (suc k ∷ []), ap bit (eq-eqb (suc k) (suc k) refl))
+seen-more : (k : ℕ) (H : List ℕ) → seenWord (suc k) H + 65536 ≡ seenWord (suc k) (H ++ suc k ∷ [])
+unfolding seenWord
+seen-more k H = omega (arith, count-append (suc k) H (suc k ∷ []), ap bit (eq-eqb (suc k) (suc k) refl))
 
-mark-other : (p k : ℕ) (H : List ℕ) → (suc k ≡ p → ⊥) → markOf p H ≡ markOf p (H ++ suc k ∷ [])
-unfolding markOf
-mark-other zero k H n = refl
-mark-other (suc j) k H n = omega (arith, count-append (suc j) H (suc k ∷ []), ap bit (ne-eqb (suc k) (suc j) n))
+seen-other : (p k : ℕ) (H : List ℕ) → (suc k ≡ p → ⊥) → seenWord p H ≡ seenWord p (H ++ suc k ∷ [])
+unfolding seenWord
+seen-other zero k H n = refl
+seen-other (suc j) k H n = omega (arith, count-append (suc j) H (suc k ∷ []), ap bit (ne-eqb (suc k) (suc j) n))
 
-mark-fits : (p : ℕ) (H : List ℕ) → p ≤ 30000 → length H < 65535 → markOf p H + 65536 < 4294967296
-unfolding markOf
-mark-fits zero H a b = omega arith
-mark-fits (suc k) H a b = omega (arith, count-le (suc k) H)
+seen-fits : (p : ℕ) (H : List ℕ) → p ≤ 30000 → length H < 65535 → seenWord p H + 65536 < 4294967296
+unfolding seenWord
+seen-fits zero H a b = omega arith
+seen-fits (suc k) H a b = omega (arith, count-le (suc k) H)
 
--- the level number of a mark
-pub mark-mod : (p : ℕ) (H : List ℕ) → p ≤ 30000 → markOf p H % 65536 ≡ p
-unfolding markOf
-mark-mod zero H b = refl
-mark-mod (suc k) H b = omega arith
+-- the level number in it
+pub seen-mod : (p : ℕ) (H : List ℕ) → p ≤ 30000 → seenWord p H % 65536 ≡ p
+unfolding seenWord
+seen-mod zero H b = refl
+seen-mod (suc k) H b = omega arith
 
 -- ---- one operand
 
 module _ {n : ℕ} {w : Walk} {tail : ℕ} {work : List ℕ} (h : Held n w tail work) (v : ℕ) (hv : Node n v) where
   unseen : getD work (n + v - 1) 0 ≡ 0 → numberIn v (w .queue) ≡ 0
-  unseen e = mark-zero _ (w .shadows) (sym (h .marks v hv) ∙ e)
+  unseen e = seen-zero _ (w .shadows) (sym (h .seen v hv) ∙ e)
 
   -- there is room in the queue for a node that is not in it
   pub has-room : getD work (n + v - 1) 0 ≡ 0 → tail < n
@@ -71,8 +71,8 @@ module _ {n : ℕ} {w : Walk} {tail : ℕ} {work : List ℕ} (h : Held n w tail 
       let f : length q ≤ n = fits-length n q (nodup-snoc (w .queue) v (h .inv .nodup) (unseen e)) (all-append (Node n) (w .queue) (v ∷ []) (h .inv .inside) (hv, tt)) in
       omega (arith, h .tail-is, length-append (w .queue) (v ∷ []))
 
-  pub mark-small : length (w .shadows) < 65535 → getD work (n + v - 1) 0 + 65536 < 4294967296
-  mark-small b = rw (h .marks v hv) (mark-fits (numberIn v (w .queue)) (w .shadows) (omega (arith, number-le v (w .queue), h .tail-is)) b)
+  pub seen-small : length (w .shadows) < 65535 → getD work (n + v - 1) 0 + 65536 < 4294967296
+  seen-small b = rw (h .seen v hv) (seen-fits (numberIn v (w .queue)) (w .shadows) (omega (arith, number-le v (w .queue), h .tail-is)) b)
 
   inv-next : (p : ℕ) → numberIn v (w .queue) ≡ p → Inv n (enter p v w) (h .line ++ v ∷ [])
   inv-next p e = subst (λ (x : Walk). Inv n x (h .line ++ v ∷ [])) (see-at v w p e) (inv-see n v w (h .line) hv (h .inv))
@@ -90,12 +90,12 @@ module _ {n : ℕ} {w : Walk} {tail : ℕ} {work : List ℕ} (h : Held n w tail 
         line = h .line ++ v ∷ [];
         inv = inv-next 0 new;
         below = all-imp (λ x. x ≤ length (w .queue)) (λ x. x ≤ length (w .queue ++ v ∷ [])) (w .shadows) (λ x b. omega (arith, length-append (w .queue) (v ∷ []))) (h .below);
-        marks = λ u hu. elim (ℕ-discrete u v) [
+        seen = λ u hu. elim (ℕ-discrete u v) [
           | yes same ↦ rw (same, getD-set-same work₁ (n + v - 1) (tail + 1) 0 (simp length-set (omega (arith, h .room, hv))), number-new v (w .queue) [] new, h .tail-is)
-              (mark-new (length (w .queue)) (w .shadows) (h .below))
+              (seen-new (length (w .queue)) (w .shadows) (h .below))
           | no other ↦ rw (number-other u v (w .queue) other)
               (getD-set-other work₁ (n + v - 1) (n + u - 1) (tail + 1) 0 (λ z. other (omega (arith, hu, hv)))
-              ∙ getD-set-other work (2 * n + tail) (n + u - 1) v 0 (λ z. absurd (omega (arith, hu))) ∙ h .marks u hu)
+              ∙ getD-set-other work (2 * n + tail) (n + u - 1) v 0 (λ z. absurd (omega (arith, hu))) ∙ h .seen u hu)
         ];
         order = λ i b. getD-set-other work₁ (n + v - 1) (2 * n + i) (tail + 1) 0 (λ z. absurd (omega (arith, hv))) ∙ elim (ℕ-discrete i tail) [
           | yes same ↦ rw (same, getD-set-same work (2 * n + tail) v 0 (omega (arith, h .room))) (sym (getD-at (w .queue) v [] 0 tail (sym (h .tail-is))))
@@ -116,18 +116,18 @@ module _ {n : ℕ} {w : Walk} {tail : ℕ} {work : List ℕ} (h : Held n w tail 
     line = h .line ++ v ∷ [];
     inv = inv-next (suc k) e;
     below = all-append (λ x. x ≤ length (w .queue)) (w .shadows) (suc k ∷ []) (h .below) (omega (arith, number-le v (w .queue)), tt);
-    marks = λ u hu. elim (ℕ-discrete u v) [
-      | yes same ↦ rw (same, getD-set-same work (n + v - 1) (getD work (n + v - 1) 0 + 65536) 0 (omega (arith, h .room, hv)), h .marks v hv, e) (mark-more k (w .shadows))
-      | no other ↦ getD-set-other work (n + v - 1) (n + u - 1) _ 0 (λ z. other (omega (arith, hu, hv))) ∙ h .marks u hu
-          ∙ mark-other (numberIn u (w .queue)) k (w .shadows) (λ f. other (sym (getD-number u (w .queue) k (sym f) .1) ∙ getD-number v (w .queue) k e .1))
+    seen = λ u hu. elim (ℕ-discrete u v) [
+      | yes same ↦ rw (same, getD-set-same work (n + v - 1) (getD work (n + v - 1) 0 + 65536) 0 (omega (arith, h .room, hv)), h .seen v hv, e) (seen-more k (w .shadows))
+      | no other ↦ getD-set-other work (n + v - 1) (n + u - 1) _ 0 (λ z. other (omega (arith, hu, hv))) ∙ h .seen u hu
+          ∙ seen-other (numberIn u (w .queue)) k (w .shadows) (λ f. other (sym (getD-number u (w .queue) k (sym f) .1) ∙ getD-number v (w .queue) k e .1))
     ];
     order = λ i b. getD-set-other work (n + v - 1) (2 * n + i) _ 0 (λ z. absurd (omega (arith, hv))) ∙ h .order i b;
     spare = λ i b c. getD-set-other work (n + v - 1) (2 * n + i) _ 0 (λ z. absurd (omega (arith, hv))) ∙ h .spare i b c;
   })
 
   see-old : (getD work (n + v - 1) 0 ≡ 0 → ⊥) → Held n (see v w) tail (set work (n + v - 1) (getD work (n + v - 1) 0 + 65536))
-  unfolding markOf
-  see-old z = seen-at (numberIn v (w .queue)) refl (λ e. z (h .marks v hv ∙ ap (λ (p : ℕ). markOf p (w .shadows)) e))
+  unfolding seenWord
+  see-old z = seen-at (numberIn v (w .queue)) refl (λ e. z (h .seen v hv ∙ ap (λ (p : ℕ). seenWord p (w .shadows)) e))
 
 module _ {n tail : ℕ} {work : List ℕ} (h : Holding n tail 1 work) (v : ℕ) (hv : Node n v) where
   pub saw-new : getD work (n + v - 1) 0 ≡ 0 → Saw n (v ∷ []) tail (tail + 1) work (set (set work (2 * n + tail) v) (n + v - 1) (tail + 1))
@@ -159,7 +159,7 @@ module _ {n : ℕ} {w : Walk} {tail : ℕ} {work : List ℕ} (h : Held n w tail 
     line = h .line ++ 0 ∷ [];
     inv = inv-close n w (h .line) (h .inv);
     below = h .below;
-    marks = h .marks;
+    seen = h .seen;
     order = h .order;
     spare = h .spare;
   }
@@ -174,7 +174,7 @@ module _ {n : ℕ} {w : Walk} {tail : ℕ} {work : List ℕ} (h : Held n w tail 
     line = h .line;
     inv = h .inv;
     below = h .below;
-    marks = λ v hv. over-behind o (n + v - 1) (omega (arith, hv, o .upto)) ∙ h .marks v hv;
+    seen = λ v hv. over-behind o (n + v - 1) (omega (arith, hv, o .upto)) ∙ h .seen v hv;
     order = λ j b′. over-behind o (2 * n + j) (omega (arith, o .upto)) ∙ h .order j b′;
     spare = λ j b′ c. over-behind o (2 * n + j) (omega (arith, o .upto)) ∙ h .spare j b′ c;
   }
@@ -187,12 +187,12 @@ module _ {n : ℕ} {w : Walk} {tail : ℕ} {work : List ℕ} (h : Held n w tail 
     pub queued-node : Node n v
     queued-node = rw queued (all-at (Node n) (w .queue) i 0 (h .inv .inside) (omega (arith, h .tail-is)))
 
-    pub queued-mark : getD work (n + v - 1) 0 ≡ suc i + 65536 * countIn (suc i) (w .shadows)
-    unfolding markOf
-    queued-mark =
-        h .marks v queued-node
-        ∙ ap (λ (u : ℕ). markOf (numberIn u (w .queue)) (w .shadows)) queued
-        ∙ ap (λ (p : ℕ). markOf p (w .shadows)) (number-getD (w .queue) i (h .inv .nodup) (omega (arith, h .tail-is)))
+    pub queued-seen : getD work (n + v - 1) 0 ≡ suc i + 65536 * countIn (suc i) (w .shadows)
+    unfolding seenWord
+    queued-seen =
+        h .seen v queued-node
+        ∙ ap (λ (u : ℕ). seenWord (numberIn u (w .queue)) (w .shadows)) queued
+        ∙ ap (λ (p : ℕ). seenWord p (w .shadows)) (number-getD (w .queue) i (h .inv .nodup) (omega (arith, h .tail-is)))
 
 -- ---- h, the count of marked nodes, by one node more
 

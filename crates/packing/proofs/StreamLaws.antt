@@ -20,7 +20,7 @@ use Rattle.packing.specs.declared.stream.Cursor.{Cursor}
 use Rattle.packing.specs.declared.stream.Next.{Next}
 use Rattle.packing.proofs.ScanLaws.{word-in}
 use Rattle.packing.proofs.RunLaws.{are-words, roots-run, operands-end}
-use Rattle.packing.proofs.HeldLaws.{mark-mod, queued, queued-node}
+use Rattle.packing.proofs.HeldLaws.{seen-mod, queued, queued-node}
 use Rattle.packing.proofs.PackLaws.{roots-at}
 use Rattle.packing.proofs.TurnLaws.{Turn, turn-at, turn-first, walk-done}
 
@@ -205,10 +205,10 @@ module _ {t : List ℕ} {n : ℕ} {left : Walk} {c : Cursor} (r : Rest t n left 
     level-new : numberIn v (so .queue) ≡ 0 → numberIn v (walk g .queue) ≡ suc (length (so .queue))
     level-new e = in-walk (length (so .queue)) (ap (λ (x : Walk). numberIn v (x .queue)) (see-at v so 0 e) ∙ number-new v (so .queue) [] e)
 
-    -- p is its level number, out of its mark
+    -- p is its level number, out of its word
     module _ (p : ℕ) (ep : p ≡ getD work (n + v - 1) 0 % 65536) where
       level : p ≡ numberIn v (walk g .queue)
-      level = ep ∙ ap (λ (m : ℕ). m % 65536) (k .held .marks v operand-node) ∙ mark-mod (numberIn v (walk g .queue)) (walk g .shadows)
+      level = ep ∙ ap (λ (m : ℕ). m % 65536) (k .held .seen v operand-node) ∙ seen-mod (numberIn v (walk g .queue)) (walk g .shadows)
           (omega (arith, number-le v (walk g .queue), k .held .tail-is, k .held .small))
 
       pub real : p ≡ c .ones + 1 → Wrote t n 1 [] left (record { i = c .i; at = c .at + 1; left = c .left - 1; ones = p })

@@ -15,7 +15,7 @@ use Rattle.format.proofs.Places.{all-at, perm-sum, sum-append, take-end, take-n
 use Rattle.format.proofs.Cutting.{operandNumbers}
 use Rattle.format.proofs.Walks.{operands-inside, see-cases, seeAll-grows, inv-turns, empty, start-visit}
 use Rattle.format.proofs.Order.{fits, fits-length}
-use Rattle.packing.specs.Work.{graphOf, Sized, startOf, markOf, runAt, RunIn, Holding, Kept, Saw, WorkAt}
+use Rattle.packing.specs.Work.{graphOf, Sized, startOf, seenWord, runAt, RunIn, Holding, Kept, Saw, WorkAt}
 use Rattle.packing.proofs.OverLaws.{over-length, over-in, over-behind, over-all}
 use Rattle.packing.proofs.RunLaws.{Run, operands-at, formed, limits, operands-run, roots-run}
 use Rattle.packing.proofs.HeldLaws.{held-close, queued, queued-node}
@@ -175,7 +175,7 @@ module _ {t : List ℕ} {n i tail : ℕ} {work : List ℕ} (h : WorkAt t n (turn
 
 pub begun : {t : List ℕ} {n : ℕ} {work₁ work₂ : List ℕ} (work : List ℕ) → Sized t n → 3 * n ≤ length work → work₁ ≡ over (replicate (3 * n) 0) work
     → work₂ ≡ over (each n (startOf (graphOf t))) work₁ → WorkAt t n empty 0 work₂ × Kept 0 (3 * n) work work₂
-unfolding markOf numberIn operandNumbers
+unfolding seenWord numberIn operandNumbers
 begun {t} {n} {work₁} {work₂} work s b e₁ e₂ =
     let zeros = over-all (replicate (3 * n) 0) (3 * n) work (length-replicate {A = ℕ} (3 * n) 0) b in
     let l₁ : length work₁ ≡ length work = ap length e₁ ∙ over-length zeros in
@@ -194,7 +194,7 @@ begun {t} {n} {work₁} {work₂} work s b e₁ e₂ =
           line = [];
           inv = record { nodup = tt; inside = tt; size = refl; zeros = refl; ones = refl; twos = refl; kinds = refl; shows = λ q r e y. refl };
           below = tt;
-          marks = λ v h. zero-at (n + v - 1) (omega (arith, h)) (omega (arith, h));
+          seen = λ v h. zero-at (n + v - 1) (omega (arith, h)) (omega (arith, h));
           order = λ i h. absurd (omega arith);
           spare = λ i h b. zero-at (2 * n + i) (omega arith) (omega arith);
         };

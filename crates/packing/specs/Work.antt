@@ -39,12 +39,12 @@ pub record RunIn (n at : ℕ) (table : List ℕ) : Type 0 where
 
 -- ---- the buffer
 
--- the mark of a node with level number p, among the shadows H
-unfoldable pub markOf : ℕ → List ℕ → ℕ
-markOf zero H = 0
-markOf (suc k) H = suc k + 65536 * countIn (suc k) H
+-- the word of a node: its level number p, with 65,536 for each of its uses among the shadows H; 0 while it is not seen
+unfoldable pub seenWord : ℕ → List ℕ → ℕ
+seenWord zero H = 0
+seenWord (suc k) H = suc k + 65536 * countIn (suc k) H
 
--- the buffer holds the marks and the queue of the walk w, in which `tail` nodes are seen
+-- the buffer holds the words of the nodes seen and the queue of the walk w, in which `tail` nodes are seen
 pub record Held (n : ℕ) (w : Walk) (tail : ℕ) (work : List ℕ) : Type 0 where
   pub room : 3 * n ≤ length work
   pub small : n ≤ 30000
@@ -53,7 +53,7 @@ pub record Held (n : ℕ) (w : Walk) (tail : ℕ) (work : List ℕ) : Type 0 whe
   pub line : List ℕ
   pub inv : Inv n w line
   pub below : All (λ h. h ≤ length (w .queue)) (w .shadows)
-  pub marks : (v : ℕ) → Node n v → getD work (n + v - 1) 0 ≡ markOf (numberIn v (w .queue)) (w .shadows)
+  pub seen : (v : ℕ) → Node n v → getD work (n + v - 1) 0 ≡ seenWord (numberIn v (w .queue)) (w .shadows)
   pub order : (i : ℕ) → i < tail → getD work (2 * n + i) 0 ≡ getD (w .queue) i 0
   pub spare : (i : ℕ) → tail ≤ i → i < n → getD work (2 * n + i) 0 ≡ 0
 
