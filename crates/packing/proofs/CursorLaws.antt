@@ -1,12 +1,12 @@
 -- The trits that are left determine the cursor: so the contracts of `first`, `step` and `next_tryte` allow one answer each. Assumes nothing.
 use mathlib.Core.Path.{_≡_, refl, sym, ap, _∙_}
 use mathlib.Core.List.{List, [], _∷_, _++_}
-use Prim.Native.Nat.{ℕ, _+_, _≤_, _<_}
+use Prim.Native.Nat.{ℕ, _+_, _≤_}
 use native.Mathlib.Decide.{decLe}
 use native.Mathlib.Omega.{arith}
 use lib.ListN.{length, getD, take, drop, length-append, length-drop}
 use lib.Seq.{length-take-le, take-append-seam}
-use Rattle.format.specs.Lists.{countIn, horner}
+use Rattle.format.specs.Lists.{countIn}
 use Rattle.format.specs.Level.{Walk, see, seeAll, close, turns, walk}
 use Rattle.format.proofs.Walks.{see-cases}
 use Rattle.packing.specs.Work.{graphOf}
