@@ -8,13 +8,14 @@ use mathlib.Core.Path.{_≡_, refl, sym, ap, _∙_}
 use mathlib.Core.Logic.{_⊎_, inl, inr, ⊎-elim}
 use mathlib.Core.List.{List}
 use lib.Dec.{lit<, lit≤}
-use lib.ListN.{length, getD}
-use Rattle.format.specs.Lists.{countIn, lowDigits}
+use lib.ListN.{length, getD, take, drop}
+use lib.Seq.{getD-take, getD-drop}
+use Rattle.format.specs.Lists.{countIn, lowDigits, spread}
 use Rattle.format.specs.Image.{section1}
 use Rattle.format.specs.Proper.{tritsOf, Whole}
 use Rattle.format.specs.Trits.{rank, trytes, tryteCount, tryteTable, Selected}
 use Rattle.format.proofs.Laws.{rank-past, rank-mono, rank-three, rank-le, rank-count, rank-hit, rank-miss}
-use Rattle.format.proofs.Digits.{below-digits, length-digits, digits-at, lt-up}
+use Rattle.format.proofs.Digits.{below-digits, length-digits, digits-at, spread-at, lt-up}
 use Rattle.format.proofs.Select.{rank-tryte, trit-at}
 use Rattle.format.proofs.Tryte.{tryte-entry}
 use Rattle.format.proofs.Sizes.{length-trytes}
@@ -26,6 +27,13 @@ use Rattle.trits.specs.Search.{Tryte, Between}
 use Rattle.trits.proofs.Searching.{ordered, inside, later, sooner}
 
 -- ---- one tryte
+
+-- trit r of tryte q
+pub trit-of : (bs : List ℕ) (q r : ℕ) → q < length bs → r < 5 → getD (spread 3 5 bs) (5 * q + r) 0 ≡ getD bs q 0 / 3 ^ r % 3
+trit-of bs q r l h =
+    sym (getD-take 5 (drop (5 * q) (spread 3 5 bs)) r 0 h ∙ getD-drop (5 * q) (spread 3 5 bs) r 0)
+    ∙ ap (λ (ds : List ℕ). getD ds r 0) (spread-at 3 5 bs q l)
+    ∙ digits-at 3 5 (getD bs q 0) r h
 
 pub count-few : (t x r : ℕ) → tryteCount t x r ≤ r
 unfolding tryteCount rank

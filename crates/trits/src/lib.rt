@@ -11,7 +11,7 @@ use little::wide;
 ghost use mathlib.Core.Path.{_≡_};
 ghost use Prim.Native.Nat.{_+_, _*_, _/_, _%_, _^_, _≤_, _<_};
 ghost use lib.ListN.{length, getD};
-ghost use Rattle.format.specs.Lists.{countIn};
+ghost use Rattle.format.specs.Lists.{countIn, spread};
 ghost use Rattle.format.specs.Trits.{rank, select, tryteCount, tryteTable, Selected};
 ghost use Rattle.format.specs.Proper.{checkImage, tritsOf};
 ghost use Rattle.format.specs.Answers.{foundPlace};
@@ -365,8 +365,18 @@ fn digit(x: usize, r: usize) -> usize
     }
 }
 
+// Trit `p` of trytes, before they are known to be an image's.
+pub fn trit(trytes: &[u8], p: usize) -> usize
+    requires { ⌜ p < 5 * length (now trytes) ⌝ }
+    ensures { λ r. ⌜ (r ≡ getD (spread 3 5 (now (trytes .entry))) p 0) × (r < 3) ⌝ }
+{
+    let q = p / 5;
+    let x = wide(trytes[q]);
+    digit(x, p % 5)
+}
+
 // How often `t` stands in tryte `x`, by the table.
-fn tryte_count(table: &[u8; 243], x: usize, t: usize) -> usize
+pub fn tryte_count(table: &[u8; 243], x: usize, t: usize) -> usize
     requires { ⌜ (now table ≡ tryteTable) × (x < 243) × (t < 3) ⌝ }
     ensures { λ r. ⌜ (r ≡ tryteCount t x 5) × (r ≤ 5) ⌝ }
 {
@@ -381,7 +391,7 @@ fn tryte_count(table: &[u8; 243], x: usize, t: usize) -> usize
 }
 
 // How often `t` stands in the first `r` trits of tryte `x`, by division.
-fn tryte_part(x: usize, t: usize, r: usize) -> usize
+pub fn tryte_part(x: usize, t: usize, r: usize) -> usize
     requires { ⌜ r ≤ 5 ⌝ }
     ensures { λ n. ⌜ (n ≡ tryteCount t x r) × (n ≤ 5) ⌝ }
 {

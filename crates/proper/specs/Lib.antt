@@ -1,0 +1,2 @@
+-- What the functions of this crate know and answer, over the definitions of `format`.
+pub mod Known

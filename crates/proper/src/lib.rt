@@ -1,0 +1,1 @@
+// The checker of images: one function a section.
