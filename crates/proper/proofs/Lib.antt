@@ -1,1 +1,2 @@
 -- The laws of this crate's functions, by subject.
+pub mod FirstLaws

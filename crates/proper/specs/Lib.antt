@@ -1,2 +1,3 @@
 -- What the functions of this crate know and answer, over the definitions of `format`.
 pub mod Known
+pub mod FirstSays

@@ -1,1 +1,2 @@
 // The checker of images: one function a section.
+pub mod first;
