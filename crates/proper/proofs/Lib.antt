@@ -1,2 +1,3 @@
 -- The laws of this crate's functions, by subject.
 pub mod FirstLaws
+pub mod SecondLaws

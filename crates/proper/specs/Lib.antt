@@ -1,3 +1,4 @@
 -- What the functions of this crate know and answer, over the definitions of `format`.
 pub mod Known
 pub mod FirstSays
+pub mod SecondSays

@@ -1,2 +1,3 @@
 // The checker of images: one function a section.
 pub mod first;
+pub mod second;

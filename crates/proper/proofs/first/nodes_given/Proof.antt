@@ -20,7 +20,7 @@ loop-holds : tie.Need-loop-holds Inv-loop μ-loop
 loop-holds c = let x = c .before .args in (length-untrytes (x .l) (x .bs .now) (c .before .pre .0), ballot-none (untrytes (x .l) (x .bs .now)))
 
 returns : tie.Need-returns Inv-loop μ-loop
-returns c = let at = c .before .before in λ eb eg. ballot-broken (at .loop .p) (at .loop .inv .1) (omega arith) (c .if1 .taken) eb eg
+returns c = let at = c .before .before in λ eb eg. ballot-broken (at .loop .p) (at .loop .inv .1) (omega arith) (omega arith) eb eg
 
 add-zeros : tie.Need-add-zeros Inv-loop μ-loop
 add-zeros c = let b = c .before .before .before .before .loop .inv .1 in omega (arith, ballot-few b)
