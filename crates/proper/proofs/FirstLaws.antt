@@ -15,7 +15,7 @@ use Rattle.format.specs.Lists.{bit, every, countIn, spread, Below}
 use Rattle.format.specs.Trits.{rank, untrytes}
 use Rattle.format.specs.Image.{untilZero, nodeCount, rootCount, edgeCount}
 use Rattle.format.specs.Proper.{rootsFirst, balanced, grown, limits, contentsFault1, OwnRules}
-use Rattle.format.proofs.Laws.{both-true, true-both, getD-other, count-three, count-le, rank-zero, rank-suc, rank-mono, rank-past, rank-here, rank-miss, rank-count, rank-le, rank-three}
+use Rattle.format.proofs.Laws.{both-true, true-both, getD-other, count-three, count-le, rank-zero, rank-suc, rank-mono, rank-past, rank-here, rank-hit, rank-miss, rank-count, rank-le, rank-three}
 use Rattle.format.proofs.CheckLaws.{contents-1-gives, limits-nodes, trits-untrytes}
 use Rattle.format.proofs.EdgeLaws.{lt-of-rank}
 use Rattle.format.proofs.Sums.{roots-nodes}
@@ -57,22 +57,31 @@ front t (zero ∷ xs) (suc p) h e = absurd (omega (arith, rank-le 1 xs p))
 front t (suc zero ∷ xs) (suc p) h e = omega (arith, front t xs p (le-of-suc-le-suc h) (omega arith))
 front t (suc (suc x) ∷ xs) (suc p) h e = absurd (omega (arith, rank-le 1 xs p, ap bit (ne-eqb (suc (suc x)) 1 (λ z. omega arith))))
 
-module _ (trits : List ℕ) (three : Below 3 trits) (p : ℕ) (ones : rank 1 trits p ≡ p) where
-  at : (t x : ℕ) → p < length trits → getD trits p 0 ≡ x → countIn t (untilZero trits) ≡ rank t trits p + countIn t (untilZero (x ∷ drop (suc p) trits))
-  at t x h e =
-      front t trits p (omega arith) ones ∙ ap (λ (ys : List ℕ). rank t trits p + countIn t (untilZero ys)) (drop-cons trits p 0 h ∙ ap (λ (k : ℕ). k ∷ drop (suc p) trits) e)
+pub record OnesOnly (trits : List ℕ) (p : ℕ) : Type 0 where
+  pub threes : Below 3 trits
+  pub inside : p ≤ length trits
+  pub ones : rank 1 trits p ≡ p
 
-  pub roots-zero : p < length trits → getD trits p 0 ≡ 0 → (rootsFirst trits ≡ true) × (p ≡ rootCount trits)
-  unfolding rootsFirst rootCount
-  roots-zero h e = (eq-eqb (countIn 2 (untilZero trits)) 0 (omega (arith, at 2 0 h e, rank-three trits three p (omega arith))), omega (arith, at 1 0 h e))
-
-  pub roots-two : p < length trits → getD trits p 0 ≡ 2 → rootsFirst trits ≡ true → ⊥
-  unfolding rootsFirst
-  roots-two h e r = omega (arith, at 2 2 h e, eqb-true (countIn 2 (untilZero trits)) 0 r)
-
+module _ {trits : List ℕ} {p : ℕ} (o : OnesOnly trits p) where
   pub roots-end : length trits ≤ p → balanced trits ≡ true → ⊥
   unfolding nodeCount
-  roots-end h e = omega (arith, rank-past 1 trits p h, zeros-ones trits e, count-le 0 trits)
+  roots-end h e = omega (arith, o .ones, rank-past 1 trits p h, zeros-ones trits e, count-le 0 trits)
+
+  module _ (h : p < length trits) where
+    at : (t x : ℕ) → getD trits p 0 ≡ x → countIn t (untilZero trits) ≡ rank t trits p + countIn t (untilZero (x ∷ drop (suc p) trits))
+    at t x e = front t trits p (o .inside) (o .ones) ∙ rw (drop-cons trits p 0, e)
+
+    pub roots-zero : getD trits p 0 ≡ 0 → (rootsFirst trits ≡ true) × (p ≡ rootCount trits)
+    unfolding rootsFirst rootCount
+    roots-zero e =
+        (eq-eqb (countIn 2 (untilZero trits)) 0 (omega (arith, at 2 0 e, o .ones, rank-three trits (o .threes) p (o .inside))), omega (arith, o .ones, at 1 0 e))
+
+    pub roots-two : getD trits p 0 ≡ 2 → rootsFirst trits ≡ true → ⊥
+    unfolding rootsFirst
+    roots-two e r = omega (arith, at 2 2 e, eqb-true (countIn 2 (untilZero trits)) 0 r)
+
+    pub roots-more : getD trits p 0 ≡ 1 → OnesOnly trits (p + 1)
+    roots-more e = record { threes = o .threes; inside = omega arith; ones = rank-hit 1 trits p h e ∙ ap (λ (k : ℕ). k + 1) (o .ones) }
 
 -- ---- the nodes: no fewer ones than zeros before any trit, and one fewer before the end
 

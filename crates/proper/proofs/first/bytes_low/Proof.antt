@@ -5,7 +5,7 @@ use mathlib.Core.Path.{_≡_, refl, sym, _∙_}
 use borrow.Author.Needs.{needs}
 use borrow.Author.Tests.{le-leb, lt-leb}
 use lib.Dec.{leb}
-use lib.ListN.{length, drop}
+use lib.ListN.{length, getD, drop}
 use Rattle.format.specs.Lists.{every}
 use Rattle.format.specs.Proper.{bytesLow}
 use Rattle.proper.proofs.FirstLaws.{every-more, every-stop, every-end}
@@ -25,12 +25,14 @@ loop-holds c = (omega arith, refl)
 returns : tie.Need-returns Inv-loop μ-loop
 returns c =
     let at = c .before .before .before in
-    sym (at .loop .inv .1 ∙ every-stop _ (at .before .args .bs .now) (at .loop .i) (search needs) (lt-leb _ 242 (c .if1 .taken)))
+    let bs = at .before .args .bs .now in
+    sym (at .loop .inv .1 ∙ every-stop _ bs (at .loop .i) (search needs) (lt-leb (getD bs (at .loop .i) 0) 242 (omega arith)))
 
 loop-again : tie.Need-loop-again Inv-loop μ-loop
 loop-again c =
     let at = c .before .before .before in
-    (omega arith, at .loop .inv .1 ∙ every-more _ (at .before .args .bs .now) (at .loop .i) (search needs) (le-leb _ 242 (c .if1 .left)))
+    let bs = at .before .args .bs .now in
+    (omega arith, at .loop .inv .1 ∙ every-more _ bs (at .loop .i) (search needs) (le-leb (getD bs (at .loop .i) 0) 242 (omega arith)))
 
 returns-2 : tie.Need-returns-2 Inv-loop μ-loop
 returns-2 c = let at = c .before in sym (at .loop .inv .1 ∙ every-end _ (at .before .args .bs .now) (at .loop .i) (search needs))

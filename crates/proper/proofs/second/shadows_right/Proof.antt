@@ -44,10 +44,11 @@ add-twos c = let s = c .before .before .before .before .before .before .loop .in
 
 loop-again : tie.Need-loop-again Inv-loop μ-loop
 loop-again c =
-    let test = c .before .before .before in
-    let on = test .before in
+    let test = c .before .before in
+    let on = test .before .before in
     let i = on .before .before .loop .inv in
-    (i .0, seeing-more (i .1) (omega arith) (i .0 .paired) (trit-is on) (test .entry-right .ensures) (not-false _ (c .before .before .if1 .left)) _ _ (c .before .one-if .ensures .0) (c .one-if2 .ensures .0))
+    let right = not-false _ (test .if1 .left) in
+    (i .0, seeing-more (i .1) (omega arith) (i .0 .paired) (trit-is on) (test .before .entry-right .ensures) right _ _ (c .before .one-if .ensures .0) (c .one-if2 .ensures .0))
 
 returns-2 : tie.Need-returns-2 Inv-loop μ-loop
 returns-2 c = let i = c .before .loop .inv in λ trits t e. rw (trits-are t e) at (sym (seeing-all (i .1) (omega arith)))
