@@ -1,3 +1,4 @@
 pub mod PartLaws
 pub mod MarkLaws
 pub mod FirstLaws
+pub mod BitLaws

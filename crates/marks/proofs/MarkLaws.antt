@@ -76,14 +76,14 @@ module _ {counts : List ℕ} {w word left : ℕ} (m : Made counts w word left) w
       let e : left ≡ 0 = omega arith in
       m .made ∙ rw (e, add-zero)
 
--- ---- its ones
+-- ---- the ones of a word
 
 one-digit : (d : ℕ) → d < 2 → bit (eqb d 1) ≡ d
 one-digit zero h = refl
 one-digit (suc zero) h = refl
 one-digit (suc (suc d)) h = absurd (omega arith)
 
-ones-horner : (ds : List ℕ) → Below 2 ds → ones (horner 2 ds) ≡ countIn 1 ds
+pub ones-horner : (ds : List ℕ) → Below 2 ds → ones (horner 2 ds) ≡ countIn 1 ds
 unfolding ones
 ones-horner [] h = refl
 ones-horner (d ∷ ds) h =

@@ -1,57 +1,15 @@
--- A bit set in a word, and in a map of words: it is set there, and every other stays. Assumes nothing.
-use mathlib.Core.Path.{_≡_, refl, sym, ap, _∙_}
-use mathlib.Core.Bool.{Bool, true, false}
+-- A map of words marks the numbers of a list. Assumes nothing.
+use mathlib.Core.Path.{_≡_, sym, ap, _∙_, refl}
 use mathlib.Core.List.{List, [], _∷_, _++_}
-use Prim.Native.Nat.{ℕ, zero, suc, _+_, _-_, _*_, _/_, _%_, _^_, _<_}
-use native.Mathlib.Nat.{one-mul, mod-lt, mul-mod-left, div-eq-of-lt, zero-div, pow-suc}
+use Prim.Native.Nat.{ℕ, zero, suc, _/_, _%_, _<_}
 use native.Mathlib.Decide.{ℕ-discrete}
 use native.Mathlib.Omega.{arith}
-use lib.Dec.{lit<, ltb}
-use lib.ListN.{length, getD, set, replicate, getD-replicate}
-use lib.Seq.{getD-set-same, getD-set-other}
-use lib.Pow.{pow-lt, pow-add, shl-exact, shl-shr}
-use lib.Bits.{bitOr, or-shr, or-mod, or-zero-r}
-use borrow.Author.Tests.{ltb-true, ltb-false}
+use lib.ListN.{length, getD, set, replicate}
 use Rattle.format.specs.Lists.{numberIn}
 use Rattle.format.proofs.Places.{number-new}
-use Rattle.packing.specs.Bitmap.{bitOf, Marked}
+use Rattle.marks.specs.Bits.{BitSet, bitIn}
+use Rattle.marks.proofs.BitLaws.{bit-none, bit-same, bit-other}
 use Rattle.packing.proofs.NumberLaws.{number-other}
-
--- ---- a word
-
-pow-same : (b : ℕ) → bitOf (2 ^ b) b ≡ 1
-pow-same b = ap (λ (n : ℕ). n / 2 ^ b % 2) (sym (one-mul (2 ^ b))) ∙ ap (λ (n : ℕ). n % 2) (shl-shr 1 b)
-
-pow-above : (b k : ℕ) → bitOf (2 ^ (suc k + b)) b ≡ 0
-pow-above b k = ap (λ (n : ℕ). n / 2 ^ b % 2) (pow-add 2 (suc k) b) ∙ ap (λ (n : ℕ). n % 2) (shl-shr (2 ^ suc k) b ∙ pow-suc 2 k) ∙ mul-mod-left (2 ^ k) 2
-
-pow-other : (b j : ℕ) → (j ≡ b → ⊥) → bitOf (2 ^ b) j ≡ 0
-pow-other b j n = by-order (ltb b j) refl
-  where
-    by-order : (t : Bool) → ltb b j ≡ t → bitOf (2 ^ b) j ≡ 0
-    by-order true e = ap (λ (x : ℕ). x % 2) (div-eq-of-lt (pow-lt (ltb-true b j e)))
-    by-order false e = let q : suc (b - j - 1) + j ≡ b = omega (arith, n, ltb-false b j e) in rw q at (pow-above j (b - j - 1))
-
-or-bit : (w m j : ℕ) → bitOf (bitOr w m) j ≡ bitOr (bitOf w j) (bitOf m j)
-or-bit w m j = ap (λ (n : ℕ). n % 2) (or-shr w m j) ∙ or-mod (w / 2 ^ j) (m / 2 ^ j) 1
-
-or-one : (d : ℕ) → d < 2 → bitOr d 1 ≡ 1
-or-one zero h = refl
-or-one (suc zero) h = refl
-or-one (suc (suc d)) h = absurd (omega arith)
-
-pub sets : (w b : ℕ) → b < 64 → Marked w b (bitOr w ((1 * 2 ^ b) % 2 ^ 64))
-sets w b h =
-    let one : (1 * 2 ^ b) % 2 ^ 64 ≡ 2 ^ b = shl-exact 1 b 64 (lit< tt) (omega arith) ∙ one-mul (2 ^ b) in
-    record {
-      now-set = rw (one, or-bit, pow-same) (or-one (bitOf w b) (mod-lt (w / 2 ^ b) (lit< tt)));
-      others = λ j n. rw (one, or-bit, pow-other b j n) (or-zero-r (bitOf w j));
-    }
-
--- ---- a map of words
-
-abbrev mark : List ℕ → ℕ → ℕ
-mark ws v = bitOf (getD ws (v / 64) 0) (v % 64)
 
 -- 1 for a number that stands in the list
 abbrev pub listed : ℕ → ℕ
@@ -60,32 +18,25 @@ listed (suc k) = 1
 
 -- the map marks the numbers of a list
 abbrev pub Marks : List ℕ → List ℕ → Type 0
-Marks ws l = (v : ℕ) → v < 30016 → mark ws v ≡ listed (numberIn v l)
+Marks ws l = (v : ℕ) → v < 30016 → bitIn ws v ≡ listed (numberIn v l)
 
 pub marks-none : Marks (replicate 469 0) []
 unfolding numberIn
-marks-none v h = rw (getD-replicate {A = ℕ} 469 (v / 64) 0 0 (omega arith)) (ap (λ (n : ℕ). n % 2) (zero-div (2 ^ (v % 64))))
+marks-none v h = bit-none 469 v (omega arith)
 
 listed-zero : (p : ℕ) → listed p ≡ 0 → p ≡ 0
 listed-zero zero e = refl
 listed-zero (suc k) e = absurd (omega arith)
 
 module _ (ws l : List ℕ) (x : ℕ) (small : x < 30016) (m : Marks ws l) where
-  pub marks-new : mark ws x ≡ 0 → numberIn x l ≡ 0
+  pub marks-new : bitIn ws x ≡ 0 → numberIn x l ≡ 0
   marks-new e = listed-zero (numberIn x l) (sym (m x small) ∙ e)
 
-  pub marks-old : (mark ws x ≡ 0 → ⊥) → numberIn x l ≡ 0 → ⊥
+  pub marks-old : (bitIn ws x ≡ 0 → ⊥) → numberIn x l ≡ 0 → ⊥
   marks-old n e = n (m x small ∙ ap listed e)
 
-  module _ (r : ℕ) (inside : x / 64 < length ws) (now : Marked (getD ws (x / 64) 0) (x % 64) r) where
-    mark-other : (v : ℕ) → (v ≡ x → ⊥) → mark (set ws (x / 64) r) v ≡ mark ws v
-    mark-other v n = elim (ℕ-discrete (v / 64) (x / 64)) [
-      | yes q ↦ rw (q, getD-set-same ws (x / 64) r 0 inside) (now .others (v % 64) (λ z. n (omega arith)))
-      | no q ↦ rw (getD-set-other ws (x / 64) (v / 64) r 0 q)
-    ]
-
-    pub marks-more : numberIn x l ≡ 0 → Marks (set ws (x / 64) r) (l ++ x ∷ [])
-    marks-more new v h = elim (ℕ-discrete v x) [
-      | yes e ↦ rw (e, number-new x l [] new, getD-set-same ws (x / 64) r 0 inside) (now .now-set)
-      | no e ↦ rw (number-other v x l e) (mark-other v e ∙ m v h)
-    ]
+  pub marks-more : (r : ℕ) → x / 64 < length ws → BitSet (getD ws (x / 64) 0) (x % 64) r → numberIn x l ≡ 0 → Marks (set ws (x / 64) r) (l ++ x ∷ [])
+  marks-more r inside now new v h = elim (ℕ-discrete v x) [
+    | yes e ↦ rw (e, number-new x l [] new) (bit-same ws x inside now)
+    | no e ↦ rw (number-other v x l e) (bit-other ws x inside now v e ∙ m v h)
+  ]

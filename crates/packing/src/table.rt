@@ -6,7 +6,8 @@ ghost use Prim.Native.Nat.{ℕ, _≤_, _<_};
 ghost use lib.ListN.{length, getD, drop};
 ghost use Rattle.format.specs.Table.{isNode, readOperands, readNodes, readRoots, readTable};
 ghost use Rattle.packing.specs.Sizes.{placeOf, stepOf, sizes, sizesOf, Lists};
-ghost use Rattle.packing.specs.Bitmap.{bitOf, Marked};
+ghost use Rattle.marks.specs.Bits.{bitOf};
+use marks::with_mark;
 
 // The place after what was read, or the fault.
 pub enum Step {
@@ -93,19 +94,11 @@ fn lists(table: &[u16], n: usize) -> Step
 }
 
 // A bit of a word.
-fn tested(word: u64, b: u64) -> u64
+fn tested(word: u64, b: usize) -> u64
     requires { ⌜ b < 64 ⌝ }
     ensures { λ r. ⌜ r ≡ bitOf word b ⌝ }
 {
     (word >> b) % 2
-}
-
-// The word with a bit set.
-fn marked(word: u64, b: u64) -> u64
-    requires { ⌜ b < 64 ⌝ }
-    ensures { λ r. ⌜ Marked word b r ⌝ }
-{
-    word | (1u64 << b)
 }
 
 // Reads c roots from `at` on, none of them twice.
@@ -125,12 +118,12 @@ fn roots(table: &[u16], n: usize, at: usize, c: usize) -> Step
             return Step::Bad(format::Refusal::RootOutside);
         }
         let w = v / 64;
-        let b = (v % 64) as u64;
+        let b = v % 64;
         let marks = seen[w];
         if tested(marks, b) != 0 {
             return Step::Bad(format::Refusal::RootTwice);
         }
-        seen[w] = marked(marks, b);
+        seen[w] = with_mark(marks, b);
         p += 1;
         left -= 1;
     }

@@ -76,7 +76,7 @@ loop-again c =
       inside = omega arith;
       words = simp length-set (l .inv .words);
       before = l .inv .before ++ v ∷ [];
-      marks = marks-more (l .seen) (l .inv .before) v (small o) (l .inv .marks) (c .marked .result) (omega (arith, small o, l .inv .words)) (c .marked .ensures) new;
+      marks = marks-more (l .seen) (l .inv .before) v (small o) (l .inv .marks) (c .with-mark .result) (omega (arith, small o, l .inv .words)) (c .with-mark .ensures) new;
       rest = root-next _ _ (l .p) (l .inv .before) (l .left) (l .left - 1) (omega arith) (omega arith) v (w .word .ensures .0)
           (o .before .outside .ensures ∙ ap not (o .if2 .left)) new ∙ l .inv .rest;
     }
