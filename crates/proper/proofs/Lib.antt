@@ -1,3 +1,6 @@
 -- The laws of this crate's functions, by subject.
 pub mod FirstLaws
 pub mod SecondLaws
+pub mod ShadowLaws
+pub mod MapLaws
+pub mod OnesLaws

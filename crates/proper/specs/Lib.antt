@@ -2,3 +2,4 @@
 pub mod Known
 pub mod FirstSays
 pub mod SecondSays
+pub mod Marking

@@ -1,3 +1,4 @@
 // The checker of images: one function a section.
 pub mod first;
 pub mod second;
+pub mod marked;
