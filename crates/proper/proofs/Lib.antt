@@ -4,3 +4,4 @@ pub mod SecondLaws
 pub mod ShadowLaws
 pub mod MapLaws
 pub mod OnesLaws
+pub mod StartLaws

@@ -3,3 +3,4 @@ pub mod Known
 pub mod FirstSays
 pub mod SecondSays
 pub mod Marking
+pub mod Starting

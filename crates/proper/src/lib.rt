@@ -2,3 +2,4 @@
 pub mod first;
 pub mod second;
 pub mod marked;
+pub mod started;
