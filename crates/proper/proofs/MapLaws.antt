@@ -1,6 +1,7 @@
 -- A map is marked entry by entry of H, and its words are then section 3's: the bits of a word are the marks of 64 nodes. Assumes nothing.
 use Prim.Native.Nat.{ℕ, zero, suc, _+_, _-_, _*_, _/_, _%_, _^_, _≤_, _<_, zero-le, suc-le-suc}
 use native.Mathlib.Decide.{ℕ-discrete, decLe}
+use native.Mathlib.Nat.{add-zero}
 use native.Mathlib.Numerals.{add-one}
 use native.Mathlib.Omega.{arith}
 use mathlib.Core.Path.{_≡_, refl, sym, ap, _∙_}
@@ -14,7 +15,6 @@ use Rattle.format.specs.Lists.{bit, countIn, up, same, lowDigits, Below}
 use Rattle.format.specs.Image.{bytes, nodeCount, marked, marks, markWords}
 use Rattle.format.specs.Table.{AllNodes}
 use Rattle.format.specs.Proper.{ProperTrits}
-use Rattle.format.proofs.Laws.{count-append}
 use Rattle.format.proofs.Digits.{horner-digits, horner-ext, digits-at, gather-at, getD-block, length-digits, length-block}
 use Rattle.format.proofs.Sizes.{length-marks, length-markWords}
 use Rattle.format.proofs.Marks.{marks-at}
@@ -25,7 +25,7 @@ use Rattle.marks.specs.Bits.{bitOf, BitSet, bitIn}
 use Rattle.marks.proofs.BitLaws.{bit-none, bit-same, bit-other}
 use Rattle.proper.specs.Known.{Shadowed}
 use Rattle.proper.specs.Marking.{MarkMap}
-use Rattle.proper.proofs.ShadowLaws.{all-nodes, length-shadows}
+use Rattle.proper.proofs.ShadowLaws.{all-nodes, length-shadows, count-snoc}
 
 -- ---- one entry more
 
@@ -40,14 +40,10 @@ map-more {H} {ws} {r} x m small now = record { long = length-set ws (x / 64) r �
     inside : x / 64 < length ws
     inside = omega (arith, m .long)
 
-    same : (v : ℕ) → (v ≡ x → ⊥) → countIn (suc v) H ≡ countIn (suc v) (H ++ suc x ∷ [])
-    same v n = omega (arith, count-append (suc v) H (suc x ∷ []), ap bit (ne-eqb (suc x) (suc v) (λ q. n (omega arith))))
-
     go : (v : ℕ) → v < 30016 → bitIn (set ws (x / 64) r) v ≡ bit (ltb 0 (countIn (suc v) (H ++ suc x ∷ [])))
     go v l = elim (ℕ-discrete v x) [
-      | yes e ↦ rw e (bit-same ws x inside now ∙ sym (ap bit (lt-ltb 0 (countIn (suc x) (H ++ suc x ∷ [])) (omega (arith, count-append (suc x) H (suc x ∷ []), ap bit (eq-eqb (suc x) (suc x) refl))))))
-      | no e ↦ bit-other ws x inside now v e ∙ m .bits v l
-          ∙ ap (λ (k : ℕ). bit (ltb 0 k)) (same v e)
+      | yes e ↦ rw (e, count-snoc, eq-eqb (suc x) (suc x) refl) (bit-same ws x inside now ∙ sym (ap bit (lt-ltb 0 (countIn (suc x) H + 1) (omega arith))))
+      | no e ↦ rw (count-snoc, ne-eqb (suc x) (suc v) (λ q. e (omega arith)), add-zero) (bit-other ws x inside now v e ∙ m .bits v l)
     ]
 
 -- the first i entries are marked

@@ -82,13 +82,13 @@ pub fn count_marks(marks: &[u8]) -> usize
     ensures { λ r. ⌜ ((trits H : List ℕ) → Marked trits H (now (marks .entry)) → r ≡ length (markedNodes trits H)) ⌝ }
 {
     let words = marks.len() / 8;
-    let mut sum = 0;
+    let mut count = 0;
     let mut w = 0;
     while w < words {
-        sum += marks_in(marks, w);
+        count += marks_in(marks, w);
         w += 1;
     }
-    sum
+    count
 }
 
 // Section 9: the marks before each word.

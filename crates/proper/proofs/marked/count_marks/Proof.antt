@@ -7,16 +7,16 @@ use Rattle.proper.proofs.marked.count_marks.Statement.{statement}
 use Rattle.proper.proofs.marked.count_marks.Tie as tie
 
 abbrev Inv-loop : tie.InvT-loop
-Inv-loop marks words sum₀ w₀ sum w = Counted marks w sum
+Inv-loop marks words count₀ w₀ count w = Counted marks w count
 
 abbrev μ-loop : tie.MeasureT-loop
-μ-loop marks words sum₀ w₀ sum w = words - w
+μ-loop marks words count₀ w₀ count w = words - w
 
 next : tie.Need-loop-again Inv-loop μ-loop
 next c = counted-more (c .before .before .loop .inv) (c .before .loop-test .taken) (c .marks-in .ensures)
 
-add-sum : tie.Need-add-sum Inv-loop μ-loop
-add-sum c = omega (arith, counted-few (next c) (c .before .before .before .before .pre .2))
+add-count : tie.Need-add-count Inv-loop μ-loop
+add-count c = omega (arith, counted-few (next c) (c .before .before .before .before .pre .2))
 
 returns : tie.Need-returns Inv-loop μ-loop
 returns c = counted-all (c .before .loop .inv) (c .loop-test .left)
@@ -29,7 +29,7 @@ count-marks-spec =
     μ-loop
     (λ c. counted-none _)
     (λ c κs. search needs)
-    add-sum
+    add-count
     (λ c. search needs)
     (λ c. search needs)
     next
