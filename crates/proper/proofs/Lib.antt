@@ -5,3 +5,4 @@ pub mod ShadowLaws
 pub mod MapLaws
 pub mod OnesLaws
 pub mod StartLaws
+pub mod PairLaws

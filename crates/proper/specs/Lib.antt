@@ -4,3 +4,4 @@ pub mod FirstSays
 pub mod SecondSays
 pub mod Marking
 pub mod Starting
+pub mod Samples

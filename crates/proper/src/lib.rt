@@ -3,3 +3,4 @@ pub mod first;
 pub mod second;
 pub mod marked;
 pub mod started;
+pub mod sampled;
