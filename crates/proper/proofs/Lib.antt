@@ -6,3 +6,5 @@ pub mod MapLaws
 pub mod OnesLaws
 pub mod StartLaws
 pub mod PairLaws
+pub mod TwoLaws
+pub mod KeyLaws

@@ -5,3 +5,4 @@ pub mod SecondSays
 pub mod Marking
 pub mod Starting
 pub mod Samples
+pub mod Places

@@ -3,4 +3,5 @@ pub mod first;
 pub mod second;
 pub mod marked;
 pub mod started;
+pub mod placed;
 pub mod sampled;

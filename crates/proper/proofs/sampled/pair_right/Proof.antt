@@ -1,7 +1,6 @@
 -- `sampled::pair_right` meets its contract: both numbers lie in the section, and the first that differs decides. Assumes nothing.
 use Prim.Native.Nat.{_+_, _*_}
 use native.Mathlib.Omega.{arith}
-use borrow.Author.Needs.{needs}
 use borrow.Author.Tests.{eq-eqb, ne-eqb}
 use Rattle.proper.proofs.PairLaws.{number-room, small-pair}
 use Rattle.proper.proofs.sampled.pair_right.Statement.{statement}

@@ -1,0 +1,33 @@
+-- What the checker of section 5 counts and compares: the twos before a place, and the key by which the places rise. Assumes nothing.
+use Prim.Native.Nat.{ℕ, _+_, _*_, _≤_, _<_}
+use mathlib.Core.Path.{_≡_}
+use mathlib.Core.List.{List}
+use lib.ListN.{length, getD}
+use Rattle.format.specs.Trits.{rank}
+use Rattle.format.specs.Image.{shadowAt}
+use Rattle.proper.specs.declared.placed.Entry.{Entry}
+use Rattle.proper.specs.declared.placed.Entry.the-variants.{Wrong, Key}
+
+-- the twos before every multiple of 65
+abbrev pub TwosAt : List ℕ → List ℕ → Type 0
+TwosAt trits twos = (i : ℕ) → 65 * i ≤ length trits → getD twos i 0 ≡ rank 2 trits (65 * i)
+
+-- these are put over what stood there before, and nothing else
+pub record Filled (trits old twos : List ℕ) : Type 0 where
+  pub counted : TwosAt trits twos
+  pub others : (i : ℕ) → length trits < 65 * i → getD twos i 0 ≡ getD old i 0
+
+-- a place's key: its shadow, then itself
+unfoldable pub key : List ℕ → List ℕ → ℕ → ℕ
+key trits H p = 131072 * shadowAt trits H p + p
+
+-- a 2 stands at place p, and its key is at least low
+pub record Rises (trits H : List ℕ) (low p : ℕ) : Type 0 where
+  pub inside : p < length trits
+  pub two : getD trits p 0 ≡ 2
+  pub above : low ≤ key trits H p
+
+-- what an entry p is answered by, where the key before it is below low
+abbrev pub Answered : List ℕ → List ℕ → ℕ → ℕ → Entry → Type 0
+Answered trits H low p Wrong = Rises trits H low p → ⊥
+Answered trits H low p (Key k) = Rises trits H low p × (k ≡ key trits H p)

@@ -1,0 +1,137 @@
+// Section 5: the places of the twos by node. Their keys have to rise, and as many rising keys as there are twos are all of them.
+use little::get2;
+use little::get4;
+use little::wide;
+use trits::trit;
+use trits::tryte_count;
+use trits::tryte_part;
+ghost use mathlib.Core.Path.{_≡_};
+ghost use mathlib.Core.List.{List};
+ghost use Prim.Native.Nat.{ℕ, _+_, _*_, _≤_, _<_};
+ghost use lib.ListN.{length};
+ghost use Rattle.format.specs.Lists.{same, countIn};
+ghost use Rattle.format.specs.Trits.{rank, tryteTable};
+ghost use Rattle.format.specs.Image.{bytes, nodeCount, grouped};
+ghost use Rattle.format.proofs.ImageReads.{read};
+ghost use Rattle.samples.specs.Lent.{TritsIn};
+ghost use Rattle.proper.specs.Known.{Known};
+ghost use Rattle.proper.specs.Places.{TwosAt, Filled, Answered};
+
+// An entry of section 5: wrong, or its key.
+enum Entry {
+    Wrong,
+    Key(usize),
+}
+
+// A count of twos as an index.
+fn wide16(x: u16) -> usize
+    ensures { λ r. ⌜ r ≡ x ⌝ }
+{
+    x as usize
+}
+
+// The twos before tryte `end`, from those before tryte `from`.
+fn twos_to(bs: &[u8], table: &[u8; 243], from: usize, end: usize, before: usize) -> usize
+    requires { ⌜ (now table ≡ tryteTable) × (from ≤ end)
+        × ((trits : List ℕ) × TritsIn trits (now bs) × (5 * end ≤ length trits) × (before ≡ rank 2 trits (5 * from))) ⌝ }
+    ensures { λ r. ⌜ ((trits : List ℕ) → TritsIn trits (now (bs .entry)) → 5 * end ≤ length trits → before ≡ rank 2 trits (5 * from)
+        → r ≡ rank 2 trits (5 * end)) ⌝ }
+{
+    let mut n = before;
+    let mut q = from;
+    while q < end {
+        let x = wide(bs[q]);
+        n += tryte_count(table, x, 2);
+        q += 1;
+    }
+    n
+}
+
+// Puts the twos before every multiple of 65 trits, 13 trytes.
+fn sample_twos(bs: &[u8], table: &[u8; 243], l: usize, twos: &mut [u16; 1932])
+    requires { ⌜ (now table ≡ tryteTable) × (length (now twos) ≡ 1932)
+        × ((trits : List ℕ) × TritsIn trits (now bs) × (length trits ≡ l) × (countIn 2 trits ≤ 65535)) ⌝ }
+    ensures { λ _. ⌜ ((trits : List ℕ) → TritsIn trits (now (bs .entry)) → length trits ≡ l → Filled trits (now (twos .entry)) (now (twos .exit))) ⌝ }
+{
+    let last = l / 65;
+    let mut n: usize = 0;
+    let mut i: usize = 0;
+    twos[0] = 0;
+    while i < last {
+        let from = 13 * i;
+        let end = from + 13;
+        n = twos_to(bs, table, from, end, n);
+        i += 1;
+        twos[i] = n as u16;
+    }
+}
+
+// The twos before place `p`: those before the last multiple of 65, at most 12 whole trytes, and part of one.
+fn twos_before(bs: &[u8], table: &[u8; 243], twos: &[u16; 1932], p: usize) -> usize
+    requires { ⌜ (now table ≡ tryteTable) × ((trits : List ℕ) × TritsIn trits (now bs) × TwosAt trits (now twos) × (p < length trits)) ⌝ }
+    ensures { λ r. ⌜ ((trits : List ℕ) → TritsIn trits (now (bs .entry)) → TwosAt trits (now (twos .entry)) → p < length trits
+        → r ≡ rank 2 trits p) ⌝ }
+{
+    let i = p / 65;
+    let sample = wide16(twos[i]);
+    let from = 13 * i;
+    let end = p / 5;
+    let whole = twos_to(bs, table, from, end, sample);
+    let x = wide(bs[end]);
+    whole + tryte_part(x, 2, p % 5)
+}
+
+// Entry `e` of section 5: a place that holds a 2, with a key of at least `low`.
+fn entry_key(
+    bs: &[u8],
+    hs: &[u8],
+    table: &[u8; 243],
+    twos: &[u16; 1932],
+    part: &[u8],
+    l: usize,
+    e: usize,
+    low: usize,
+) -> Entry
+    requires { ⌜ (now table ≡ tryteTable) × (4 * e + 4 ≤ length (now part))
+        × ((trits : List ℕ) × (H : List ℕ) × Known trits H (now bs) (now hs) × (length trits ≡ l) × TwosAt trits (now twos)) ⌝ }
+    ensures { λ r. ⌜ ((trits H : List ℕ) → Known trits H (now (bs .entry)) (now (hs .entry)) → length trits ≡ l → TwosAt trits (now (twos .entry))
+        → Answered trits H low (read 4 (4 * e) (now (part .entry))) r) ⌝ }
+{
+    let at = 4 * e;
+    let p = get4(part, at);
+    if l <= p {
+        return Entry::Wrong;
+    }
+    if trit(bs, p) != 2 {
+        return Entry::Wrong;
+    }
+    let j = twos_before(bs, table, twos, p);
+    let from = 2 * j;
+    let shadow = get2(hs, from);
+    let key = 131072 * shadow + p;
+    if key < low {
+        return Entry::Wrong;
+    }
+    Entry::Key(key)
+}
+
+// Section 5: the places of the twos, grouped by node rising, then by place.
+pub fn places_right(bs: &[u8], hs: &[u8], table: &[u8; 243], part: &[u8], l: usize) -> bool
+    requires { ⌜ (now table ≡ tryteTable) × ((trits : List ℕ) × (H : List ℕ) × Known trits H (now bs) (now hs) × (length trits ≡ l) × (length (now part) ≡ 4 * length H)) ⌝ }
+    ensures { λ r. ⌜ ((trits H : List ℕ) → Known trits H (now (bs .entry)) (now (hs .entry)) → length trits ≡ l
+        → r ≡ same (now (part .entry)) (bytes 4 (grouped trits H (nodeCount trits)))) ⌝ }
+{
+    let mut twos = [0u16; 1932];
+    sample_twos(bs, table, l, &mut twos);
+    let many = part.len() / 4;
+    let mut low: usize = 0;
+    let mut e: usize = 0;
+    while e < many {
+        let Entry::Key(key) = entry_key(bs, hs, table, &twos, part, l, e, low) else {
+            return false;
+        };
+        low = key + 1;
+        e += 1;
+    }
+    true
+}
