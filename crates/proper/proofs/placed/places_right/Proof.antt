@@ -5,6 +5,7 @@ use mathlib.Core.Path.{_≡_, refl, subst}
 use mathlib.Core.List.{List}
 use borrow.Author.Needs.{needs}
 use lib.ListN.{length}
+use Rattle.proper.specs.declared.placed.Entry.{Entry}
 use Rattle.proper.specs.declared.placed.Entry.the-variants.{Key}
 use Rattle.proper.specs.Known.{Known}
 use Rattle.proper.specs.Places.{Answered}
@@ -19,12 +20,14 @@ Inv-loop bs hs table part l twos many low₀ e₀ low e =
 abbrev μ-loop : tie.MeasureT-loop
 μ-loop bs hs table part l twos many low₀ e₀ low e = many - e
 
--- what the entry of this turn is answered by
-told : (c : tie.After-entry-key Inv-loop μ-loop) → let at = c .before .before .before in let x = at .before .before .before .before .before .before .args in
-    (trits H : List ℕ) → Known trits H (x .bs .now) (x .hs .now) → length trits ≡ x .l → Answered trits H (at .loop .low) (entries (x .part .now) (at .loop .e)) (c .entry-key .result)
-told c trits H K n =
-    let at = c .before .before .before in
-    c .entry-key .ensures trits H K n (at .before .sample-twos .ensures trits (K .trits-in) n .counted)
+-- the entry of a turn is answered by r
+abbrev Told : tie.At-loop Inv-loop μ-loop → Entry → Type 0
+Told c r =
+    let x = c .before .before .before .before .before .before .args in
+    (trits H : List ℕ) → Known trits H (x .bs .now) (x .hs .now) → length trits ≡ x .l → Answered trits H (c .loop .low) (entries (x .part .now) (c .loop .e)) r
+
+told : (c : tie.After-entry-key Inv-loop μ-loop) → Told (c .before .before .before) (c .entry-key .result)
+told c trits H K n = c .entry-key .ensures trits H K n (c .before .before .before .before .sample-twos .ensures trits (K .trits-in) n .counted)
 
 -- part has as many entries as there are shadows
 full : (c : tie.Start Inv-loop μ-loop) → let x = c .args in (trits H : List ℕ) → Known trits H (x .bs .now) (x .hs .now) → length (x .part .now) ≡ 4 * length H
@@ -49,16 +52,16 @@ returns c =
     let at = x .before .before .before in
     λ trits H K n.
     climbed-wrong (at .loop .inv .1 trits H K n) (K .shadowed .proper) (omega (arith, full (at .before .before .before .before .before .before) trits H K))
-    (subst (Answered trits H _ _) (c .enum-told .given .1) (told x trits H K n))
+    (subst (Told at) (c .enum-told .given .1) (told x) trits H K n)
 
 -- an entry that is right, and its key
-rises : (c : tie.After-key Inv-loop μ-loop) → let at = c .before .before .before .before .before in let x = at .before .before .before .before .before .before .args in
-    (trits H : List ℕ) → Known trits H (x .bs .now) (x .hs .now) → length trits ≡ x .l → Answered trits H (at .loop .low) (entries (x .part .now) (at .loop .e)) (Key (c .key .given .0 .0))
-rises c trits H K n = subst (Answered trits H _ _) (c .key .given .1) (told (c .before .before) trits H K n)
+rises : (c : tie.After-key Inv-loop μ-loop) → Told (c .before .before .before .before .before) (Key (c .key .given .0 .0))
+rises c = subst (Told (c .before .before .before .before .before)) (c .key .given .1) (told (c .before .before))
 
 add-low : tie.Need-add-low Inv-loop μ-loop
 add-low c =
-    let t = c .before .before .before .before .before .before .before .before .before .before .before .before .pre .1 in
+    let at = c .before .before .before .before .before .before in
+    let t = at .before .before .before .before .before .before .pre .1 in
     let r = rises (c .before) (t .0) (t .1) (t .2) (t .3) in
     omega (arith, r .1, key-small (t .2) (r .0 .inside) (r .0 .two))
 
