@@ -1,5 +1,5 @@
 -- Section 5 by keys: places of twos whose keys rise, as many as there are twos, are the groups of nodes 1 to n. Assumes nothing.
-use Prim.Native.Nat.{ℕ, zero, suc, _+_, _*_, _≤_, _<_, zero-le}
+use Prim.Native.Nat.{ℕ, zero, suc, _+_, _*_, _^_, _≤_, _<_, zero-le}
 use native.Mathlib.Nat.{add-zero, le-trans, le-of-suc-le-suc, not-suc-le-zero}
 use native.Mathlib.Omega.{arith}
 use native.Mathlib.Numerals.{add-one}
@@ -130,7 +130,7 @@ pub lowAt : List ℕ → List ℕ → (ℕ → ℕ) → ℕ → ℕ
 lowAt trits H x zero = 0
 lowAt trits H x (suc e) = suc (key trits H (x e))
 
-module _ {trits H : List ℕ} (P : ProperTrits trits H) (x : ℕ → ℕ) where
+module _ {trits H : List ℕ} (P : ProperTrits trits H) where
   abbrev G : List ℕ
   G = grouped trits H (nodeCount trits)
 
@@ -147,36 +147,37 @@ module _ {trits H : List ℕ} (P : ProperTrits trits H) (x : ℕ → ℕ) where
   unfolding nodeCount
   inside p t = let n = shadow-seen trits H (P .seen) p (t .0) (t .1) in two-grouped trits H (nodeCount trits) p t (n .0) (le-trans (n .1) (rank-count 1 trits p))
 
-  -- as many as there are twos are the groups
-  risen : ((e : ℕ) → e < length H → Rises trits H (lowAt trits H x e) (x e)) → (e : ℕ) → e < length H → x e ≡ getD G e 0
-  unfolding lowAt
-  risen h e l =
-      let k : ℕ = length H in
-      let up : RisingFrom 0 (each k (λ i. f (x i))) = rising-run (λ i. f (x i)) k 0 0 (λ p. zero-le) (λ i l. h (suc i) (omega arith) .above) in
-      let all : each k (λ i. f (x i)) ≡ map f G =
-      rising-within 0 131072 (each k (λ i. f (x i))) (map f G) up keys-rise within .1 (omega (arith, length-each k (λ i. f (x i)), length-map G f, many)) in
-      key-place trits H (x e) (getD G e 0) (omega (arith, h e l .inside, P .length-high)) (omega (arith, grouped-twos trits H (nodeCount trits) e (omega (arith, many)) .0, P .length-high))
-      (sym (getD-each k (λ i. f (x i)) e (f 0) l) ∙ ap (λ (ks : List ℕ). getD ks e (f 0)) all ∙ List·getD-map f G e 0)
-    where
-      within : Within (each (length H) (λ i. f (x i))) (map f G)
-      within y m =
-          let w = Memᴰ·of-map (λ i. f (x i)) (run 0 (length H)) m in
-          let l = all-mem (λ i. (0 ≤ i) × (i < 0 + length H)) (run 0 (length H)) (all-run 0 (length H)) (w .1) in
-          let r = h (w .0) (omega (arith, l)) in
-          subst (λ (z : ℕ). List·Memᴰ z (map f G)) (w .2) (Memᴰ·map f (inside (x (w .0)) (r .inside, r .two)))
+  module _ (x : ℕ → ℕ) where
+    -- as many as there are twos are the groups
+    risen : ((e : ℕ) → e < length H → Rises trits H (lowAt trits H x e) (x e)) → (e : ℕ) → e < length H → x e ≡ getD G e 0
+    unfolding lowAt
+    risen h e l =
+        let k : ℕ = length H in
+        let up : RisingFrom 0 (each k (λ i. f (x i))) = rising-run (λ i. f (x i)) k 0 0 (λ p. zero-le) (λ i l. h (suc i) (omega arith) .above) in
+        let all : each k (λ i. f (x i)) ≡ map f G =
+        rising-within 0 131072 (each k (λ i. f (x i))) (map f G) up keys-rise within .1 (omega (arith, length-each k (λ i. f (x i)), length-map G f, many)) in
+        key-place trits H (x e) (getD G e 0) (omega (arith, h e l .inside, P .length-high)) (omega (arith, grouped-twos trits H (nodeCount trits) e (omega (arith, many)) .0, P .length-high))
+        (sym (getD-each k (λ i. f (x i)) e (f 0) l) ∙ ap (λ (ks : List ℕ). getD ks e (f 0)) all ∙ List·getD-map f G e 0)
+      where
+        within : Within (each (length H) (λ i. f (x i))) (map f G)
+        within y m =
+            let w = Memᴰ·of-map (λ i. f (x i)) (run 0 (length H)) m in
+            let l = all-mem (λ i. (0 ≤ i) × (i < 0 + length H)) (run 0 (length H)) (all-run 0 (length H)) (w .1) in
+            let r = h (w .0) (omega (arith, l)) in
+            subst (λ (z : ℕ). List·Memᴰ z (map f G)) (w .2) (Memᴰ·map f (inside (x (w .0)) (r .inside, r .two)))
 
-  -- and the groups rise
-  rise : ((e : ℕ) → e < length H → x e ≡ getD G e 0) → (e : ℕ) → e < length H → Rises trits H (lowAt trits H x e) (x e)
-  unfolding lowAt
-  rise h e l =
-      let t = grouped-twos trits H (nodeCount trits) e (omega (arith, many)) in
-      record { inside = rw (h e l) (t .0); two = rw (h e l) (t .1); above = above e l }
-    where
-      above : (e : ℕ) → e < length H → lowAt trits H x e ≤ key trits H (x e)
-      above zero l = zero-le
-      above (suc e) l =
-          rw (h e (omega arith), h (suc e) l, ← List·getD-map f G e 0, ← List·getD-map f G (suc e) 0)
-          (rising-next 131072 (map f G) keys-rise e (f 0) (omega (arith, length-map G f, many)))
+    -- and the groups rise
+    rise : ((e : ℕ) → e < length H → x e ≡ getD G e 0) → (e : ℕ) → e < length H → Rises trits H (lowAt trits H x e) (x e)
+    unfolding lowAt
+    rise h e l =
+        let t = grouped-twos trits H (nodeCount trits) e (omega (arith, many)) in
+        record { inside = rw (h e l) (t .0); two = rw (h e l) (t .1); above = above e l }
+      where
+        above : (e : ℕ) → e < length H → lowAt trits H x e ≤ key trits H (x e)
+        above zero l = zero-le
+        above (suc e) l =
+            rw (h e (omega arith), h (suc e) l, ← List·getD-map f G e 0, ← List·getD-map f G (suc e) 0)
+            (rising-next 131072 (map f G) keys-rise e (f 0) (omega (arith, length-map G f, many)))
 
 -- ---- entry by entry
 
@@ -193,6 +194,10 @@ pub climbed-none : {trits H part : List ℕ} → Climbed trits H part 0 0
 unfolding lowAt
 climbed-none = record { next = refl; right = below-none _ }
 
+-- numbers come back from bytes that are theirs
+number-in : (w : ℕ) {bs : List ℕ} (xs : List ℕ) → bs ≡ bytes w xs → Below (256 ^ w) xs → (i : ℕ) → i < length xs → read w (w * i) bs ≡ getD xs i 0
+number-in w xs e fits i l = ap (λ (b : List ℕ). read w (w * i) b) (e ∙ sym (append-nil (bytes w xs))) ∙ number-at w xs [] i l (fits i l)
+
 refuted : (b : Bool) → (b ≡ true → ⊥) → b ≡ false
 refuted true h = absurd (h refl)
 refuted false h = refl
@@ -207,18 +212,14 @@ module _ {trits H part : List ℕ} {e low : ℕ} (C : Climbed trits H part e low
 
   module _ (P : ProperTrits trits H) where
     pub climbed-wrong : e < length H → (Rises trits H low (entries part e) → ⊥) → false ≡ same part (bytes 4 (grouped trits H (nodeCount trits)))
-    climbed-wrong l n = sym (refuted _ (λ s. n (rw (C .next) (rise P (entries part) (held s) e l))))
-      where
-        held : same part (bytes 4 (grouped trits H (nodeCount trits))) ≡ true → (i : ℕ) → i < length H → entries part i ≡ getD (grouped trits H (nodeCount trits)) i 0
-        held s i l =
-            let xs : List ℕ = grouped trits H (nodeCount trits) in
-            let m : i < length xs = omega (arith, many P (entries part)) in
-            ap (λ (b : List ℕ). entries b i) (same-eq part (bytes 4 xs) s ∙ sym (append-nil (bytes 4 xs))) ∙ number-at 4 xs [] i m (fits5 trits H (P .length-high) i m)
+    climbed-wrong l n =
+        let xs : List ℕ = grouped trits H (nodeCount trits) in
+        sym (refuted _ (λ s. n (rw (C .next) (rise P (entries part) (λ i m. number-in 4 xs (same-eq part (bytes 4 xs) s) (fits5 trits H (P .length-high)) i (omega (arith, many P))) e l))))
 
     pub climbed-all : e ≡ length H → length part ≡ 4 * length H → Below 256 part → true ≡ same part (bytes 4 (grouped trits H (nodeCount trits)))
     climbed-all ee len low =
-        sym (bytes-same 4 part (grouped trits H (nodeCount trits)) (lit< tt) low (omega (arith, many P (entries part)))
-        (λ i l. risen P (entries part) (rw ee at (C .right)) i (omega (arith, many P (entries part)))))
+        sym (bytes-same 4 part (grouped trits H (nodeCount trits)) (lit< tt) low (omega (arith, many P))
+        (λ i l. risen P (entries part) (rw ee at (C .right)) i (omega (arith, many P))))
 
 -- ---- the key of an entry, as code has it
 
@@ -234,9 +235,7 @@ module _ {trits H bs hs : List ℕ} (K : Known trits H bs hs) where
     unfolding key shadowAt
     key-is {j} ej ev =
         let h : j < length H = omega (arith, shadow-room) in
-        let is : read 2 (2 * j) hs ≡ getD H j 0 =
-        ap (λ (b : List ℕ). read 2 (2 * j) b) (K .shadowed .shadows-are ∙ sym (append-nil (bytes 2 H))) ∙ number-at 2 H [] j h (shadows-small trits H (K .shadowed .proper) j h) in
-        rw (← ej) (omega arith)
+        rw (← ej) (omega (arith, number-in 2 H (K .shadowed .shadows-are) (shadows-small trits H (K .shadowed .proper)) j h))
 
     pub key-small : key trits H p ≤ 131072 * 30000 + 125536
     unfolding key shadowAt nodeCount
