@@ -29,6 +29,14 @@ pub then-no : (a b : ℕ) → 0 < a → (a then b) ≡ a
 then-no zero b h = absurd (not-suc-le-zero h)
 then-no (suc a) b h = refl
 
+pub then-assoc : (a b c : ℕ) → ((a then b) then c) ≡ (a then b then c)
+then-assoc zero b c = refl
+then-assoc (suc a) b c = refl
+
+pub then-none : (a : ℕ) → (a then 0) ≡ a
+then-none zero = refl
+then-none (suc a) = refl
+
 -- what holds of every fault of a chain holds of the first
 module _ (P : ℕ → Type 0) where
   pub fault-in : P 0 → (c : ℕ) (t : Bool) → P c → P (fault c t)

@@ -1,4 +1,6 @@
 -- The laws of this crate's functions, by subject.
+pub mod OpenLaws
+pub mod GivenLaws
 pub mod FirstLaws
 pub mod SecondLaws
 pub mod ShadowLaws
@@ -8,3 +10,4 @@ pub mod StartLaws
 pub mod PairLaws
 pub mod TwoLaws
 pub mod KeyLaws
+pub mod PassedLaws

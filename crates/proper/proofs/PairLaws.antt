@@ -20,14 +20,9 @@ use Rattle.samples.specs.declared.Counts.{Counts}
 use Rattle.samples.specs.Lent.{TritsIn}
 use Rattle.samples.specs.Samples.{Width, Counting, Step}
 use Rattle.samples.proofs.SampleLaws.{none, counting-anew, pair-is, far-pairs}
-use Rattle.proper.specs.Samples.{Planned, pairHolds}
+use Rattle.proper.specs.Samples.{Level, far, middle, near, Planned, pairHolds}
 
 -- ---- the three sections
-
-pub data Level : ℕ → ℕ → ℕ → Type 0 where
-  far : Level 65725 2 4
-  middle : Level 275 239 2
-  near : Level 25 11 1
 
 pub planned : {step fan width : ℕ} → Level step fan width → (trits part : List ℕ) → length trits ≤ 125536
     → length part ≡ width * (2 * (length trits / step + 1)) → Planned trits step fan width part

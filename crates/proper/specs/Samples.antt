@@ -6,9 +6,19 @@ use mathlib.Core.List.{List}
 use lib.Dec.{eqb}
 use lib.ListN.{length}
 use Rattle.format.specs.Lists.{Below}
-use Rattle.format.specs.Image.{pairs, lastMultiple}
+use Rattle.format.specs.Image.{bytes, pairs, lastMultiple, Section}
 use Rattle.format.proofs.ImageReads.{read}
 use Rattle.samples.specs.Samples.{Width}
+
+-- step, fan and width of sections 6, 7 and 8
+pub data Level : ℕ → ℕ → ℕ → Type 0 where
+  far : Level 65725 2 4
+  middle : Level 275 239 2
+  near : Level 25 11 1
+
+-- the section with so many steps, and so many bytes a number
+unfoldable pub levelOf : ℕ → ℕ → ℕ → List ℕ → Section
+levelOf step fan width trits = record { entries = length trits / step + 1; contents = bytes width (pairs step (lastMultiple (step * fan)) trits) }
 
 -- a section of samples: a step of whole trytes, so many steps until counting begins anew, so many bytes a number; part is as long as its pairs, and these fit
 pub record Planned (trits : List ℕ) (step fan width : ℕ) (part : List ℕ) : Type 0 where

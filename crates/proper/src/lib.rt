@@ -1,7 +1,8 @@
 // The checker of images: one function a section.
+pub mod check;
 pub mod first;
-pub mod second;
 pub mod marked;
-pub mod started;
 pub mod placed;
 pub mod sampled;
+pub mod second;
+pub mod started;

@@ -1,0 +1,75 @@
+-- `check::level` meets its contract. Assumes nothing.
+use Prim.Native.Nat.{ℕ, _+_, _*_, _/_, _≤_, _<_}
+use native.Mathlib.Omega.{arith}
+use mathlib.Core.Path.{_≡_, sym, ap, _∙_}
+use mathlib.Core.List.{List}
+use borrow.Author.Needs.{needs}
+use lib.ListN.{length, getD}
+use Rattle.format.specs.Faults.{fault}
+use Rattle.format.specs.Lists.{same}
+use Rattle.format.specs.Image.{bytes, pairs, lastMultiple}
+use Rattle.format.specs.Proper.{givenFault}
+use Rattle.format.specs.Answers.{checkedNumber}
+use Rattle.format.proofs.Tryte.{tryte-entry}
+use Rattle.samples.specs.Lent.{TritsIn}
+use Rattle.proper.specs.Examined.{opens}
+use Rattle.proper.specs.Samples.{levelOf, Planned}
+use Rattle.proper.proofs.OpenLaws.{opens-room, given-refused, given-right}
+use Rattle.proper.proofs.GivenLaws.{level-small, front-level}
+use Rattle.proper.proofs.PairLaws.{planned}
+use Rattle.proper.proofs.check.level.Statement.{statement}
+use Rattle.proper.proofs.check.level.Tie as tie
+
+small : (c : tie.Start) → let x = c .args in (0 < x .step) × (x .l / x .step ≤ 125536) × (x .width * (2 * (x .l / x .step + 1)) ≤ 1004296)
+small c = let p = c .pre in level-small (p .1) (omega (arith, p .2 .1 .few, p .2 .2))
+
+returns : tie.Need-returns
+returns c =
+    let opened = c .before .before .before in
+    let x = opened .before .before .before .args in
+    λ trits T e.
+    given-refused (front-level trits (x .step) (x .fan) (x .width) e) (x .rest .now) (c .before .f .given .0 .0)
+    (sym (ap checkedNumber (c .before .f .given .1)) ∙ opened .opened .ensures)
+
+-- the front is open
+front : (c : tie.After-enum-told) → let x = c .before .before .before .before .before .args in let n = x .l / x .step + 1 in 0 ≡ opens 25 n (x .width * (2 * n)) (x .rest .now)
+front c = sym (ap checkedNumber (c .enum-told .given .1)) ∙ c .before .before .opened .ensures
+
+-- its contents are as many pairs as the trits give
+plan : (c : tie.After-contents) → let x = c .before .before .before .before .before .before .args in (trits : List ℕ) → TritsIn trits (x .bs .now) → length trits ≡ x .l
+    → Planned trits (x .step) (x .fan) (x .width) (c .contents .result .now)
+plan c trits T e =
+    let s = c .before .before .before .before .before .before in
+    planned (s .pre .1) trits _ (T .few)
+    (c .contents .ensures .1 ∙ ap (λ (k : ℕ). s .args .width * (2 * (k / s .args .step + 1))) (sym e))
+
+samples-right-requires : tie.Need-samples-right-requires
+samples-right-requires c κs =
+    let p = c .before .before .before .before .before .before .pre in
+    (λ x h. ap (λ (l : List ℕ). getD l x 0) (p .0) ∙ tryte-entry x h, (p .2 .0, p .2 .1, p .2 .2, plan c (p .2 .0) (p .2 .1) (p .2 .2)))
+
+gives : (c : tie.After-samples-right) → let x = c .before .before .before .before .before .before .before .args in (trits : List ℕ) → TritsIn trits (x .bs .now) → length trits ≡ x .l
+    → fault 25 (c .samples-right .result) ≡ givenFault (levelOf (x .step) (x .fan) (x .width) trits) (x .rest .now)
+unfolding levelOf
+gives c trits T e =
+    let x = c .before .before .before .before .before .before .before .args in
+    given-right (front-level trits (x .step) (x .fan) (x .width) e) (x .rest .now) (c .samples-right .result) (front (c .before .before))
+    (c .samples-right .ensures trits T e (plan (c .before) trits T e)
+    ∙ ap (λ (l : List ℕ). same l (bytes (x .width) (pairs (x .step) (lastMultiple (x .step * x .fan)) trits))) (c .before .contents .ensures .0))
+
+pub level-spec : {M : Type 1} → statement M
+level-spec =
+    tie.close
+    (tie.spec
+    (λ c. small (c .before .before) .0)
+    (λ c. omega (arith, small (c .before .before) .1))
+    (λ c. omega (arith, small (c .before .before) .1))
+    (λ c. omega (arith, small (c .before .before) .2))
+    (λ c κs. search needs)
+    (λ c. search needs)
+    returns
+    (λ c. search needs)
+    (λ c κs. opens-room _ _ _ _ (sym (front c)))
+    samples-right-requires
+    (λ c. λ trits T e. sym (ap (fault 25) (c .if1 .taken)) ∙ gives (c .before) trits T e)
+    (λ c. λ trits T e. sym (ap (fault 25) (c .if1 .left)) ∙ gives (c .before) trits T e))

@@ -1,0 +1,274 @@
+// The checker: the sections in their order, up to the first fault.
+use format::Checked;
+use format::FAR;
+use format::MAX_TRITS;
+use format::MIDDLE;
+use format::NEAR;
+use format::Refusal;
+use little::get4;
+ghost use mathlib.Core.Path.{_≡_};
+ghost use mathlib.Core.List.{List, []};
+ghost use Prim.Native.Nat.{ℕ, _+_, _≤_};
+ghost use lib.ListN.{length};
+ghost use Rattle.format.specs.Trits.{untrytes, tryteTable};
+ghost use Rattle.format.specs.Image.{nodeCount, given};
+ghost use Rattle.format.specs.Proper.{contentsOf, restOf, givenFault, checkGiven, checkImage};
+ghost use Rattle.format.specs.Answers.{refusalNumber, checkedNumber};
+ghost use Rattle.samples.specs.Lent.{TritsIn};
+ghost use Rattle.trits.specs.Layout.{layoutOf};
+ghost use Rattle.proper.specs.Known.{Known, Marked};
+ghost use Rattle.proper.specs.Samples.{Level, levelOf};
+ghost use Rattle.proper.specs.Examined.{Examines, opens, laying, FirstPassed, Sized, Through, Counted, givenFrom, check2, shadows2};
+
+// The layout of a proper image, or the refusal.
+pub enum Examined {
+    Proper(trits::Layout),
+    Refused(Refusal),
+}
+
+// The front of a section: its count missing (21) or wrong (`code`), its contents missing (21).
+fn opened(rest: &[u8], code: Refusal, entries: usize, size: usize) -> Checked
+    ensures { λ r. ⌜ checkedNumber r ≡ opens (refusalNumber code) entries size (now (rest .entry)) ⌝ }
+{
+    if rest.len() < 4 {
+        return Checked::Refused(Refusal::ImageEnds);
+    }
+    let found = get4(rest, 0);
+    if found != entries {
+        return Checked::Refused(code);
+    }
+    if rest.len() - 4 < size {
+        return Checked::Refused(Refusal::ImageEnds);
+    }
+    Checked::Proper
+}
+
+// A section's contents.
+fn contents(rest: &[u8], size: usize) -> &[u8]
+    requires { ⌜ 4 + size ≤ length (now rest) ⌝ }
+    ensures { λ r. ⌜ (now r ≡ contentsOf size (now (rest .entry))) × (length (now r) ≡ size) ⌝ }
+{
+    let end = 4 + size;
+    &rest[4..end]
+}
+
+// What follows a section.
+fn after(rest: &[u8], size: usize) -> &[u8]
+    requires { ⌜ 4 + size ≤ length (now rest) ⌝ }
+    ensures { λ r. ⌜ now r ≡ restOf size (now (rest .entry)) ⌝ }
+{
+    let end = 4 + size;
+    &rest[end..]
+}
+
+// Nothing follows section 9 (26).
+fn ended(rest: &[u8]) -> Checked
+    ensures { λ r. ⌜ checkedNumber r ≡ checkGiven [] (now (rest .entry)) ⌝ }
+{
+    if rest.len() == 0 {
+        return Checked::Proper;
+    }
+    Checked::Refused(Refusal::BytesAfterImage)
+}
+
+// Section 9, and that nothing follows.
+fn from9(marks: &[u8], rest: &[u8], lay: trits::Layout) -> Checked
+    requires { ⌜ ((trits : List ℕ) × (H : List ℕ) × Marked trits H (now marks) × (lay .nodes ≡ nodeCount trits)) ⌝ }
+    ensures { λ r. ⌜ ((trits H : List ℕ) → Marked trits H (now (marks .entry)) → lay .nodes ≡ nodeCount trits
+        → checkedNumber r ≡ checkGiven (givenFrom 6 trits H) (now (rest .entry))) ⌝ }
+{
+    let words = (lay.nodes + 63) / 64;
+    let size = 2 * words;
+    if let Checked::Refused(f) = opened(rest, Refusal::IndexWrong, words, size) {
+        return Checked::Refused(f);
+    }
+    let right = crate::marked::mark_samples_right(marks, contents(rest, size));
+    if right {
+        return ended(after(rest, size));
+    }
+    Checked::Refused(Refusal::IndexWrong)
+}
+
+// Section 6, 7 or 8.
+fn level(
+    bs: &[u8],
+    table: &[u8; 243],
+    rest: &[u8],
+    l: usize,
+    step: usize,
+    fan: usize,
+    width: usize,
+) -> Checked
+    requires { ⌜ (now table ≡ tryteTable) × Level step fan width × ((trits : List ℕ) × TritsIn trits (now bs) × (length trits ≡ l)) ⌝ }
+    ensures { λ r. ⌜ ((trits : List ℕ) → TritsIn trits (now (bs .entry)) → length trits ≡ l → checkedNumber r ≡ givenFault (levelOf step fan width trits) (now (rest .entry))) ⌝ }
+{
+    let entries = l / step + 1;
+    let size = width * (2 * entries);
+    if let Checked::Refused(f) = opened(rest, Refusal::IndexWrong, entries, size) {
+        return Checked::Refused(f);
+    }
+    let part = contents(rest, size);
+    let right = crate::sampled::samples_right(bs, table, part, l, step, fan, width);
+    if right {
+        return Checked::Proper;
+    }
+    Checked::Refused(Refusal::IndexWrong)
+}
+
+// Section 8, then section 9 and what follows it.
+fn from8(bs: &[u8], marks: &[u8], table: &[u8; 243], rest: &[u8], lay: trits::Layout) -> Checked
+    requires { ⌜ (now table ≡ tryteTable) × ((trits : List ℕ) × (H : List ℕ) × Counted trits H (now bs) (now marks) lay) ⌝ }
+    ensures { λ r. ⌜ ((trits H : List ℕ) → Counted trits H (now (bs .entry)) (now (marks .entry)) lay → checkedNumber r ≡ checkGiven (givenFrom 5 trits H) (now (rest .entry))) ⌝ }
+{
+    let l = lay.trits;
+    let size = 1 * (2 * (l / NEAR + 1));
+    if let Checked::Refused(f) = level(bs, table, rest, l, NEAR, MIDDLE / NEAR, 1) {
+        return Checked::Refused(f);
+    }
+    from9(marks, after(rest, size), lay)
+}
+
+// Section 7, then section 8 and what follows it.
+fn from7(bs: &[u8], marks: &[u8], table: &[u8; 243], rest: &[u8], lay: trits::Layout) -> Checked
+    requires { ⌜ (now table ≡ tryteTable) × ((trits : List ℕ) × (H : List ℕ) × Counted trits H (now bs) (now marks) lay) ⌝ }
+    ensures { λ r. ⌜ ((trits H : List ℕ) → Counted trits H (now (bs .entry)) (now (marks .entry)) lay → checkedNumber r ≡ checkGiven (givenFrom 4 trits H) (now (rest .entry))) ⌝ }
+{
+    let l = lay.trits;
+    let size = 2 * (2 * (l / MIDDLE + 1));
+    if let Checked::Refused(f) = level(bs, table, rest, l, MIDDLE, FAR / MIDDLE, 2) {
+        return Checked::Refused(f);
+    }
+    from8(bs, marks, table, after(rest, size), lay)
+}
+
+// Section 6, then section 7 and what follows it.
+fn from6(bs: &[u8], marks: &[u8], table: &[u8; 243], rest: &[u8], lay: trits::Layout) -> Checked
+    requires { ⌜ (now table ≡ tryteTable) × ((trits : List ℕ) × (H : List ℕ) × Counted trits H (now bs) (now marks) lay) ⌝ }
+    ensures { λ r. ⌜ ((trits H : List ℕ) → Counted trits H (now (bs .entry)) (now (marks .entry)) lay → checkedNumber r ≡ checkGiven (givenFrom 3 trits H) (now (rest .entry))) ⌝ }
+{
+    let l = lay.trits;
+    let size = 4 * (2 * (l / FAR + 1));
+    if let Checked::Refused(f) = level(bs, table, rest, l, FAR, 2, 4) {
+        return Checked::Refused(f);
+    }
+    from7(bs, marks, table, after(rest, size), lay)
+}
+
+// Sections 5 to 9.
+fn from5(bs: &[u8], hs: &[u8], marks: &[u8], rest: &[u8], lay: trits::Layout) -> Checked
+    requires { ⌜ ((trits : List ℕ) × (H : List ℕ) × Through trits H (now bs) (now hs) (now marks) lay) ⌝ }
+    ensures { λ r. ⌜ ((trits H : List ℕ) → Through trits H (now (bs .entry)) (now (hs .entry)) (now (marks .entry)) lay
+        → checkedNumber r ≡ checkGiven (givenFrom 2 trits H) (now (rest .entry))) ⌝ }
+{
+    let k = lay.shadows;
+    let size = 4 * k;
+    if let Checked::Refused(f) = opened(rest, Refusal::IndexWrong, k, size) {
+        return Checked::Refused(f);
+    }
+    let table = trits::tryte_table();
+    let l = lay.trits;
+    let right = crate::placed::places_right(bs, hs, &table, contents(rest, size), l);
+    if right {
+        return from6(bs, marks, &table, after(rest, size), lay);
+    }
+    Checked::Refused(Refusal::IndexWrong)
+}
+
+// Sections 4 to 9.
+fn from4(bs: &[u8], hs: &[u8], marks: &[u8], rest: &[u8], lay: trits::Layout) -> Checked
+    requires { ⌜ ((trits : List ℕ) × (H : List ℕ) × Through trits H (now bs) (now hs) (now marks) lay) ⌝ }
+    ensures { λ r. ⌜ ((trits H : List ℕ) → Through trits H (now (bs .entry)) (now (hs .entry)) (now (marks .entry)) lay
+        → checkedNumber r ≡ checkGiven (givenFrom 1 trits H) (now (rest .entry))) ⌝ }
+{
+    let entries = lay.marked + 1;
+    let size = 4 * entries;
+    if let Checked::Refused(f) = opened(rest, Refusal::IndexWrong, entries, size) {
+        return Checked::Refused(f);
+    }
+    let n = lay.nodes;
+    let right = crate::started::starts_right(hs, contents(rest, size), n);
+    if right {
+        return from5(bs, hs, marks, after(rest, size), lay);
+    }
+    Checked::Refused(Refusal::IndexWrong)
+}
+
+// Sections 3 to 9, where section 1 gave the sizes.
+fn from3(bs: &[u8], hs: &[u8], rest: &[u8], l: usize, n: usize, c: usize, k: usize) -> Examined
+    requires { ⌜ ((trits : List ℕ) × (H : List ℕ) × Known trits H (now bs) (now hs) × Sized trits l n c k) ⌝ }
+    ensures { λ r. ⌜ ((trits H : List ℕ) → Known trits H (now (bs .entry)) (now (hs .entry)) → Sized trits l n c k
+        → Examines (checkGiven (given trits H) (now (rest .entry))) (laying trits H) r) ⌝ }
+{
+    let size = 8 * ((n + 63) / 64);
+    if let Checked::Refused(f) = opened(rest, Refusal::IndexWrong, n, size) {
+        return Examined::Refused(f);
+    }
+    let marks = contents(rest, size);
+    let right = crate::marked::marks_right(hs, marks, n);
+    if right {
+        let h = crate::marked::count_marks(marks);
+        let lay = trits::lay_out(l, n, c, k, h);
+        return match from4(bs, hs, marks, after(rest, size), lay) {
+            Checked::Refused(f) => Examined::Refused(f),
+            Checked::Proper => Examined::Proper(lay),
+        };
+    }
+    Examined::Refused(Refusal::IndexWrong)
+}
+
+// Sections 2 to 9.
+fn from2(bs: &[u8], rest: &[u8], l: usize, n: usize, c: usize, k: usize) -> Examined
+    requires { ⌜ FirstPassed (now bs) l n c k ⌝ }
+    ensures { λ r. ⌜ Examines (check2 (untrytes l (now (bs .entry))) (now (rest .entry)))
+        (laying (untrytes l (now (bs .entry))) (shadows2 (untrytes l (now (bs .entry))) (now (rest .entry)))) r ⌝ }
+{
+    let size = 2 * k;
+    if let Checked::Refused(f) = opened(rest, Refusal::ShadowsWrong, k, size) {
+        return Examined::Refused(f);
+    }
+    let hs = contents(rest, size);
+    let right = crate::second::shadows_right(bs, hs, l);
+    if right {
+        return from3(bs, hs, after(rest, size), l, n, c, k);
+    }
+    Examined::Refused(Refusal::ShadowsWrong)
+}
+
+// The whole image, and its layout where it is proper.
+pub fn examine(image: &[u8]) -> Examined
+    ensures { λ r. ⌜ Examines (checkImage (now (image .entry))) (layoutOf (now (image .entry))) r ⌝ }
+{
+    if image.len() < 4 {
+        return Examined::Refused(Refusal::ImageEnds);
+    }
+    let l = get4(image, 0);
+    if MAX_TRITS < l {
+        return Examined::Refused(Refusal::ImageTooLarge);
+    }
+    if l == 0 {
+        return Examined::Refused(Refusal::TritsWrong);
+    }
+    let size = (l + 4) / 5;
+    if image.len() - 4 < size {
+        return Examined::Refused(Refusal::ImageEnds);
+    }
+    let bs = contents(image, size);
+    match crate::first::section1(bs, l) {
+        crate::first::First::Wrong(f) => Examined::Refused(f),
+        crate::first::First::Sizes {
+            nodes,
+            roots,
+            shadows,
+        } => from2(bs, after(image, size), l, nodes, roots, shadows),
+    }
+}
+
+// Whether an image is proper, or its first fault.
+pub fn check(image: &[u8]) -> Checked
+    ensures { λ r. ⌜ checkedNumber r ≡ checkImage (now (image .entry)) ⌝ }
+{
+    match examine(image) {
+        Examined::Refused(f) => Checked::Refused(f),
+        Examined::Proper(lay) => Checked::Proper,
+    }
+}
