@@ -2,6 +2,7 @@
 // refusal * 2^32 + value. The proofs assume that lent slices lie apart; one of length 0 may have a dangling pointer.
 ghost use mathlib.Core.Path.{_≡_};
 ghost use Rattle.format.specs.Packing.{packOutcome};
+ghost use Rattle.format.specs.Proper.{checkImage};
 ghost use Rattle.glouds.specs.Exports.{packExport, packExported};
 
 // Packs a table: the image's length, or a refusal from 1 to 9.
@@ -21,5 +22,16 @@ pub extern "C" fn glouds_pack(
             let number = format::number(r);
             4294967296 * (number as u64)
         }
+    }
+}
+
+// Checks an image: 0 for a proper one, or a refusal from 21 to 26.
+#[no_mangle]
+pub extern "C" fn glouds_check(image: &[u8]) -> u32
+    ensures { λ r. ⌜ r ≡ checkImage (now (image .entry)) ⌝ }
+{
+    match proper::check::check(image) {
+        format::Checked::Proper => 0,
+        format::Checked::Refused(r) => format::number(r),
     }
 }
