@@ -1,5 +1,6 @@
 -- `check::ended` meets its contract. Assumes nothing.
-use mathlib.Core.Path.{sym, ap}
+use native.Mathlib.Omega.{arith}
+use mathlib.Core.Path.{sym}
 use lib.ListN.{length}
 use borrow.Author.Tests.{eq-eqb, eqb-true}
 use Rattle.format.specs.Proper.{checkGiven}
@@ -9,7 +10,7 @@ use Rattle.proper.proofs.check.ended.Tie as tie
 
 returns : tie.Need-returns
 unfolding checkGiven
-returns c = sym (fault-yes 26 _ (eq-eqb (length (c .before .args .rest .now)) 0 (c .if1 .taken)))
+returns c = sym (fault-yes 26 _ (eq-eqb (length (c .before .args .rest .now)) 0 (omega (arith, c .if1 .taken))))
 
 returns-2 : tie.Need-returns-2
 unfolding checkGiven
