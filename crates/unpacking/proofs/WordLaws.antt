@@ -1,0 +1,155 @@
+-- The table of proper trits and shadows, word by word: from the first zero on, the trit at place p has word p - c + 1. Assumes nothing.
+use Prim.Native.Nat.{ℕ, zero, suc, _+_, _-_, _≤_, _<_, zero-le, suc-le-suc}
+use native.Mathlib.Nat.{add-zero}
+use native.Mathlib.Numerals.{add-one}
+use native.Mathlib.Decide.{decLe}
+use native.Mathlib.Omega.{arith}
+use mathlib.Core.Path.{_≡_, refl, sym, ap, _∙_, subst}
+use mathlib.Core.List.{List, [], _∷_, _++_, map, map-map, append-assoc}
+use lib.ListN.{length, getD, drop, length-map, List·getD-append}
+use lib.Seq.{drop-cons, drop-at, drop-drop, getD-drop}
+use Rattle.format.specs.Lists.{run, oneTo, countIn}
+use Rattle.format.specs.Table.{counted, listWords, words}
+use Rattle.format.specs.Trits.{rank, places, Selected}
+use Rattle.format.specs.Image.{nodeCount, rootCount}
+use Rattle.format.specs.Edges.{operandOf, operandAt, edgeAt, operandEdges}
+use Rattle.format.specs.Proper.{ProperTrits}
+use Rattle.format.specs.Unpack.{unpack}
+use Rattle.format.proofs.Laws.{length-run, getD-map-run, rank-here, rank-mono, rank-count, rank-hit, rank-miss}
+use Rattle.format.proofs.Select.{place-rank}
+use Rattle.format.proofs.EdgeLaws.{lt-of-rank}
+use Rattle.format.proofs.ProperLaws.{zeros-ones, nth, nth-selected, operands-places}
+use Rattle.format.proofs.Sums.{first-zero, final-zero}
+use Rattle.unpacking.specs.Standing.{wordAt, lastZero, standAt}
+
+module _ {trits H : List ℕ} (P : ProperTrits trits H) where
+  abbrev n : ℕ
+  n = nodeCount trits
+
+  abbrev c : ℕ
+  c = rootCount trits
+
+  -- the place of zero number i, from 0
+  abbrev z : ℕ → ℕ
+  z i = nth 0 trits (suc i)
+
+  zero-at : (i : ℕ) → i ≤ n → Selected 0 trits (suc i) (z i)
+  zero-at i h = nth-selected 0 trits (suc i) (suc-le-suc zero-le) (omega (arith, zeros-ones trits (P .is-balanced)))
+
+  zeros-rise : (i : ℕ) → i < n → z i < z (suc i)
+  zeros-rise i h = lt-of-rank 0 trits (z i) (z (suc i)) (omega (arith, zero-at i (omega arith) .ranked, zero-at (suc i) h .ranked))
+
+  zeros-from : (i : ℕ) → i ≤ n → c ≤ z i
+  zeros-from zero h = omega (arith, first-zero trits H P)
+  zeros-from (suc i) h = omega (arith, zeros-rise i h, zeros-from i (omega arith))
+
+  -- the operands of node i, and those of all nodes
+  abbrev row : ℕ → List ℕ
+  row i = map operandOf (operandEdges trits H i)
+
+  abbrev rows : List (List ℕ)
+  rows = map row (oneTo n)
+
+  row-is : (i : ℕ) → i < n → row (suc i) ≡ map (operandAt trits H) (run (suc (z i)) (z (suc i) - suc (z i)))
+  unfolding edgeAt
+  row-is i h = ap (map operandOf) (operands-places trits H P (suc i) (suc-le-suc zero-le) h) ∙ map-map operandOf (edgeAt trits H) (run (suc (z i)) (z (suc i) - suc (z i)))
+
+  row-length : (i : ℕ) → i < n → length (row (suc i)) ≡ z (suc i) - suc (z i)
+  row-length i h = ap length (row-is i h) ∙ length-map (run (suc (z i)) (z (suc i) - suc (z i))) (operandAt trits H) ∙ length-run (suc (z i)) (z (suc i) - suc (z i))
+
+  rows-cons : (i : ℕ) → i < n → drop i rows ≡ row (suc i) ∷ drop (suc i) rows
+  rows-cons i h =
+      let l : i < length rows = omega (arith, length-map (oneTo n) row, length-run 1 n) in
+      drop-cons rows i [] l ∙ ap (λ (r : List ℕ). r ∷ drop (suc i) rows) (getD-map-run row 1 n i [] h ∙ ap row (omega arith))
+
+  -- the words after the first, and those of nodes i + 1, i + 2, .. and the roots
+  abbrev after : ℕ → List ℕ
+  after i = listWords (drop i rows) ++ counted (oneTo c)
+
+  after-cons : (i : ℕ) → i < n → after i ≡ length (row (suc i)) ∷ row (suc i) ++ after (suc i)
+  unfolding listWords
+  after-cons i h = rw (rows-cons i h, append-assoc)
+
+  after-is : (i : ℕ) → i ≤ n → drop (z i - c) (after 0) ≡ after i
+  after-is zero h = let e : z 0 - c ≡ 0 = omega (arith, first-zero trits H P) in ap (λ (k : ℕ). drop k (after 0)) e
+  after-is (suc i) h =
+      let e : z (suc i) - c ≡ (z i - c) + suc (length (row (suc i))) = omega (arith, row-length i h, zeros-rise i h, zeros-from i (omega arith)) in
+      rw (e, ← drop-drop, after-is i (omega arith), after-cons i h)
+      (drop-at (row (suc i)) (after (suc i)) _ refl)
+
+  -- word k of those after zero number i
+  word-after : (i k : ℕ) → i ≤ n → getD (words (unpack trits H)) (wordAt trits (z i) + k) 0 ≡ getD (after i) k 0
+  unfolding words unpack
+  word-after i k h =
+      let e : wordAt trits (z i) + k ≡ suc (z i - c + k) = omega arith in
+      ap (λ (x : ℕ). getD (words (unpack trits H)) x 0) e ∙ sym (getD-drop (z i - c) (after 0) k 0) ∙ ap (λ (l : List ℕ). getD l k 0) (after-is i h)
+
+  -- between zero number i and the next: its word is their count, and theirs are the operands
+  count-word : (i : ℕ) → i < n → getD (words (unpack trits H)) (wordAt trits (z i)) 0 ≡ z (suc i) - z i - 1
+  count-word i h =
+      ap (λ (k : ℕ). getD (words (unpack trits H)) k 0) (sym (add-zero (wordAt trits (z i)))) ∙ word-after i 0 (omega arith)
+      ∙ ap (λ (l : List ℕ). getD l 0 0) (after-cons i h) ∙ omega (arith, row-length i h)
+
+  operand-word : (i p : ℕ) → i < n → z i < p → p < z (suc i) → getD (words (unpack trits H)) (wordAt trits p) 0 ≡ operandAt trits H p
+  operand-word i p h a b =
+      let k : ℕ = p - suc (z i) in
+      let e : wordAt trits p ≡ wordAt trits (z i) + suc k = omega (arith, zeros-from i (omega arith)) in
+      let q : suc (z i) + k ≡ p = omega arith in
+      let l : k < length (row (suc i)) = omega (arith, row-length i h) in
+      ap (λ (x : ℕ). getD (words (unpack trits H)) x 0) e ∙ word-after i (suc k) (omega arith) ∙ ap (λ (w : List ℕ). getD w (suc k) 0) (after-cons i h)
+      ∙ List·getD-append (row (suc i)) (after (suc i)) 0 k l ∙ ap (λ (w : List ℕ). getD w k 0) (row-is i h)
+      ∙ getD-map-run (operandAt trits H) (suc (z i)) (z (suc i) - suc (z i)) k 0 (omega arith) ∙ ap (operandAt trits H) q
+
+  -- a zero is the one after those before it
+  zero-is : (p : ℕ) → p < length trits → getD trits p 0 ≡ 0 → z (rank 0 trits p) ≡ p
+  unfolding nth
+  zero-is p l e = ap (λ (k : ℕ). getD (places 0 trits) k 0) (omega arith) ∙ place-rank 0 trits p l e
+
+  pub last-hit : (p : ℕ) → p < length trits → getD trits p 0 ≡ 0 → lastZero trits (p + 1) ≡ p
+  unfolding lastZero
+  last-hit p l e = ap (nth 0 trits) (rank-hit 0 trits p l e ∙ add-one (rank 0 trits p)) ∙ zero-is p l e
+
+  pub last-miss : (p : ℕ) → p < length trits → (getD trits p 0 ≡ 0 → ⊥) → lastZero trits (p + 1) ≡ lastZero trits p
+  unfolding lastZero
+  last-miss p l e = ap (nth 0 trits) (rank-miss 0 trits p l e)
+
+  -- past the first zero
+  module _ (p : ℕ) (a : c < p) (l : p ≤ length trits) where
+    -- the zeros before the last
+    abbrev j : ℕ
+    j = rank 0 trits p - 1
+
+    some : rank 0 trits p ≡ suc j
+    some =
+        let s = subst (Selected 0 trits 1) (first-zero trits H P) (zero-at 0 zero-le) in
+        omega (arith, rank-here 0 trits c (s .inside) (s .holds), rank-mono 0 trits (suc c) p a)
+
+    few : j ≤ n
+    few = omega (arith, some, rank-count 0 trits p, zeros-ones trits (P .is-balanced))
+
+    last-is : lastZero trits p ≡ z j
+    unfolding lastZero
+    last-is = ap (nth 0 trits) some
+
+    pub last-from : c ≤ lastZero trits p
+    last-from = omega (arith, last-is, zeros-from j few)
+
+    pub last-past : lastZero trits p < p
+    last-past = omega (arith, last-is, lt-of-rank 0 trits (z j) p (omega (arith, some, zero-at j few .ranked)))
+
+    pub zero-word : p < length trits → getD trits p 0 ≡ 0 → getD (words (unpack trits H)) (wordAt trits (lastZero trits p)) 0 ≡ p - lastZero trits p - 1
+    zero-word q e =
+        let h : j < n = omega (arith, some, rank-here 0 trits p q e, rank-count 0 trits (suc p), zeros-ones trits (P .is-balanced)) in
+        let f : z (suc j) ≡ p = ap z (sym some) ∙ zero-is p q e in
+        ap (λ (x : ℕ). getD (words (unpack trits H)) (wordAt trits x) 0) last-is ∙ count-word j h ∙ omega (arith, last-is)
+
+    pub other-word : p < length trits → (getD trits p 0 ≡ 0 → ⊥) → getD (words (unpack trits H)) (wordAt trits p) 0 ≡ operandAt trits H p
+    other-word q e = go (decLe (suc j) n)
+      where
+        go : Dec (suc j ≤ n) → getD (words (unpack trits H)) (wordAt trits p) 0 ≡ operandAt trits H p
+        go (no m) = let f : j ≡ n = omega (arith, few) in absurd (omega (arith, last-past, last-is, ap z f, final-zero trits H P))
+        go (yes h) =
+            let s = zero-at (suc j) h in
+            let differ : p ≡ z (suc j) → ⊥ = λ f. e (ap (λ (x : ℕ). getD trits x 0) f ∙ s .holds) in
+            let u : p < suc (z (suc j)) = lt-of-rank 0 trits p (suc (z (suc j))) (omega (arith, some, rank-here 0 trits (z (suc j)) (s .inside) (s .holds), s .ranked)) in
+            operand-word j p h (omega (arith, last-past, last-is)) (omega arith)

@@ -1,0 +1,2 @@
+-- Where the unpacker stands among the trits, and what it has put by then.
+pub mod Standing
