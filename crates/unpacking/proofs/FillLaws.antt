@@ -6,8 +6,9 @@ use native.Mathlib.Omega.{arith}
 use mathlib.Core.Path.{_≡_, refl, sym, ap, _∙_}
 use mathlib.Core.List.{List, [], _∷_, _++_, append-assoc}
 use lib.ListN.{length, getD, take, drop, set, length-set, length-append, length-drop, take-append-drop}
-use lib.Seq.{paste-suc, set-comm, length-take-le, take-at, drop-at, drop-drop}
-use Rattle.format.specs.Lists.{over}
+use lib.Seq.{paste, paste-zero, paste-suc, length-paste, take-all, set-comm, length-take-le, take-at, drop-at, drop-drop}
+use Rattle.format.specs.Lists.{over, oneTo}
+use Rattle.format.proofs.Laws.{length-run, getD-run}
 use Rattle.little.specs.Put.{putAt}
 use Rattle.unpacking.specs.Standing.{overFirst}
 
@@ -61,3 +62,31 @@ pub over-end : (ws old vs : List ℕ) (w : ℕ) → w + length vs ≡ length ws 
 over-end ws old vs w e r d =
     let l : length (take w ws) ≡ w = length-take-le w ws (omega arith) in
     rw (take-at (take w ws) (drop w old) w l, ← drop-drop, drop-at (take w ws) (drop w old) w l, drop-drop, e, ← d, take-append-drop)
+
+-- ---- 1 to c from a place on
+
+-- the first i of them stand over `old`
+pub record Listed (old : List ℕ) (at c : ℕ) (table : List ℕ) (i : ℕ) : Type 0 where
+  pub room : at + c ≤ length old
+  pub upto : i ≤ c
+  pub are : table ≡ paste old at (oneTo c) i
+
+pub listed-none : (old : List ℕ) (at c : ℕ) → at + c ≤ length old → Listed old at c old 0
+listed-none old at c r = record { room = r; upto = omega arith; are = paste-zero old at (oneTo c) }
+
+module _ {old : List ℕ} {at c : ℕ} {table : List ℕ} {i : ℕ} (r : Listed old at c table i) where
+  pub listed-length : length table ≡ length old
+  listed-length = ap length (r .are) ∙ length-paste old at (oneTo c) i (omega (arith, r .room, r .upto)) (omega (arith, length-run 1 c, r .upto))
+
+  pub listed-next : i < c → Listed old at c (set table (at + i) (i + 1)) (i + 1)
+  listed-next h =
+      let v : i + 1 ≡ getD (oneTo c) i 0 = omega (arith, getD-run 1 c i 0 h) in
+      record {
+        room = r .room;
+        upto = omega arith;
+        are = ap (λ (l : List ℕ). set l (at + i) (i + 1)) (r .are) ∙ ap (set (paste old at (oneTo c) i) (at + i)) v
+            ∙ paste-suc old at (oneTo c) i 0 (omega (arith, r .room)) (omega (arith, length-run 1 c)) ∙ ap (paste old at (oneTo c)) (sym (add-one i));
+      }
+
+  pub listed-all : c ≤ i → table ≡ putAt old at (oneTo c)
+  listed-all h = let e : i ≡ c = omega (arith, r .upto) in rw (r .are, e, take-all c (oneTo c) (omega (arith, length-run 1 c)), length-run 1 c)

@@ -2,3 +2,4 @@
 pub mod WordLaws
 pub mod FillLaws
 pub mod StandLaws
+pub mod RowLaws

@@ -6,7 +6,6 @@ use mathlib.Core.Bool.{Bool, cond}
 use mathlib.Core.List.{List}
 use lib.Dec.{eqb, lit<}
 use lib.ListN.{length, getD, set}
-use borrow.Author.Tests.{eq-eqb, ne-eqb}
 use Rattle.format.specs.Lists.{All}
 use Rattle.format.specs.Trits.{rank}
 use Rattle.format.specs.Image.{nodeCount, rootCount, shadowAt}
@@ -28,8 +27,7 @@ use Rattle.trits.specs.declared.Layout.{Layout}
 use Rattle.trits.specs.Layout.{layoutOf, Laid}
 use Rattle.unpacking.specs.declared.Stand.{Stand}
 use Rattle.unpacking.specs.Standing.{tableOf, lastZero, standAt, wordAt, tritPut}
-use Rattle.unpacking.proofs.FillLaws.{Filled, filled-next, filled-late}
-use Rattle.unpacking.proofs.WordLaws.{last-hit, last-miss, last-from, last-past, zero-word, other-word}
+use Rattle.unpacking.proofs.WordLaws.{last-hit, last-miss, last-from, last-past, zero-word, put-zero, put-other}
 
 -- the numbers of a layout
 pub record Sizes (b : List ℕ) (lay : Layout) : Type 0 where
@@ -123,12 +121,10 @@ module _ {b : List ℕ} {lay : Layout} (L : Laid b lay) where
 
     -- what is put
     pub zero-put : (table : List ℕ) → getD trits p 0 ≡ 0 → set table (s .zero - lay .roots + 1) (p - s .zero - 1) ≡ tritPut trits H p table
-    unfolding tritPut
-    zero-put table e = rw (sizes .roots-are, is, eq-eqb (getD trits p 0) 0 e)
+    zero-put table e = rw (sizes .roots-are, is) (sym (put-zero trits H p table e))
 
     other-put : (table : List ℕ) (x : ℕ) → (getD trits p 0 ≡ 0 → ⊥) → x ≡ operandAt trits H p → set table (p - lay .roots + 1) x ≡ tritPut trits H p table
-    unfolding tritPut
-    other-put table x e f = rw (sizes .roots-are, f, ne-eqb (getD trits p 0) 0 e)
+    other-put table x e f = rw (sizes .roots-are, f) (sym (put-other trits H p table e))
 
     pub one-put : (table : List ℕ) → getD trits p 0 ≡ 1 → set table (p - lay .roots + 1) (s .ones + 1) ≡ tritPut trits H p table
     unfolding operandAt

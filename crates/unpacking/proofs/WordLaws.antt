@@ -1,12 +1,13 @@
 -- The table of proper trits and shadows, word by word: from the first zero on, the trit at place p has word p - c + 1. Assumes nothing.
 use Prim.Native.Nat.{ℕ, zero, suc, _+_, _-_, _≤_, _<_, zero-le, suc-le-suc}
-use native.Mathlib.Nat.{add-zero}
+use native.Mathlib.Nat.{add-zero, le-refl}
 use native.Mathlib.Numerals.{add-one}
 use native.Mathlib.Decide.{decLe}
 use native.Mathlib.Omega.{arith}
 use mathlib.Core.Path.{_≡_, refl, sym, ap, _∙_, subst}
 use mathlib.Core.List.{List, [], _∷_, _++_, map, map-map, append-assoc}
-use lib.ListN.{length, getD, drop, length-map, List·getD-append}
+use borrow.Author.Tests.{eq-eqb, ne-eqb}
+use lib.ListN.{length, getD, set, drop, length-map, drop-of-length-le, List·getD-append}
 use lib.Seq.{drop-cons, drop-at, drop-drop, getD-drop}
 use Rattle.format.specs.Lists.{run, oneTo, countIn}
 use Rattle.format.specs.Table.{counted, listWords, words}
@@ -15,12 +16,25 @@ use Rattle.format.specs.Image.{nodeCount, rootCount}
 use Rattle.format.specs.Edges.{operandOf, operandAt, edgeAt, operandEdges}
 use Rattle.format.specs.Proper.{ProperTrits}
 use Rattle.format.specs.Unpack.{unpack}
-use Rattle.format.proofs.Laws.{length-run, getD-map-run, rank-here, rank-mono, rank-count, rank-hit, rank-miss}
+use Rattle.format.proofs.Laws.{length-run, getD-map-run, rank-here, rank-mono, rank-count, rank-hit, rank-miss, rank-past, rank-three}
 use Rattle.format.proofs.Select.{place-rank}
 use Rattle.format.proofs.EdgeLaws.{lt-of-rank}
-use Rattle.format.proofs.ProperLaws.{zeros-ones, nth, nth-selected, operands-places}
+use Rattle.format.proofs.ProperLaws.{zeros-ones, nth, nth-selected, proper-seen, operands-places}
 use Rattle.format.proofs.Sums.{first-zero, final-zero}
-use Rattle.unpacking.specs.Standing.{wordAt, lastZero, standAt}
+use Rattle.unpacking.specs.Standing.{wordAt, lastZero, standAt, tritPut}
+
+-- ---- what a trit puts
+
+module _ (trits H : List ℕ) (p : ℕ) (table : List ℕ) where
+  pub put-zero : getD trits p 0 ≡ 0 → tritPut trits H p table ≡ set table (wordAt trits (lastZero trits p)) (p - lastZero trits p - 1)
+  unfolding tritPut
+  put-zero e = rw (eq-eqb (getD trits p 0) 0 e)
+
+  pub put-other : (getD trits p 0 ≡ 0 → ⊥) → tritPut trits H p table ≡ set table (wordAt trits p) (operandAt trits H p)
+  unfolding tritPut
+  put-other e = rw (ne-eqb (getD trits p 0) 0 e)
+
+-- ---- the words
 
 module _ {trits H : List ℕ} (P : ProperTrits trits H) where
   abbrev n : ℕ
@@ -113,6 +127,9 @@ module _ {trits H : List ℕ} (P : ProperTrits trits H) where
   unfolding lastZero
   last-miss p l e = ap (nth 0 trits) (rank-miss 0 trits p l e)
 
+  first-at : Selected 0 trits 1 c
+  first-at = subst (Selected 0 trits 1) (first-zero trits H P) (zero-at 0 zero-le)
+
   -- past the first zero
   module _ (p : ℕ) (a : c < p) (l : p ≤ length trits) where
     -- the zeros before the last
@@ -121,8 +138,7 @@ module _ {trits H : List ℕ} (P : ProperTrits trits H) where
 
     some : rank 0 trits p ≡ suc j
     some =
-        let s = subst (Selected 0 trits 1) (first-zero trits H P) (zero-at 0 zero-le) in
-        omega (arith, rank-here 0 trits c (s .inside) (s .holds), rank-mono 0 trits (suc c) p a)
+        omega (arith, rank-here 0 trits c (first-at .inside) (first-at .holds), rank-mono 0 trits (suc c) p a)
 
     few : j ≤ n
     few = omega (arith, some, rank-count 0 trits p, zeros-ones trits (P .is-balanced))
@@ -153,3 +169,47 @@ module _ {trits H : List ℕ} (P : ProperTrits trits H) where
             let differ : p ≡ z (suc j) → ⊥ = λ f. e (ap (λ (x : ℕ). getD trits x 0) f ∙ s .holds) in
             let u : p < suc (z (suc j)) = lt-of-rank 0 trits p (suc (z (suc j))) (omega (arith, some, rank-here 0 trits (z (suc j)) (s .inside) (s .holds), s .ranked)) in
             operand-word j p h (omega (arith, last-past, last-is)) (omega arith)
+
+  -- ---- where the pass begins: ones alone stand before the first zero
+
+  no-twos : rank 2 trits c ≡ 0
+  no-twos = go (decLe (rank 2 trits c) 0)
+    where
+      go : Dec (rank 2 trits c ≤ 0) → rank 2 trits c ≡ 0
+      go (yes h) = omega arith
+      go (no h) =
+          let s = nth-selected 2 trits 1 (le-refl 1) (omega (arith, rank-count 2 trits c)) in
+          let q : ℕ = nth 2 trits 1 in
+          let l : q < c = lt-of-rank 2 trits q c (omega (arith, s .ranked)) in
+          absurd (omega (arith, proper-seen trits H P q (s .inside) (s .holds) .0, rank-mono 0 trits q c (omega arith), first-at .ranked))
+
+  pub stand-first : record { ones = c; twos = 0; zero = c } ≡ standAt trits (c + 1)
+  stand-first =
+      let l = first-at .inside in
+      let e = first-at .holds in
+      let ones : rank 1 trits (c + 1) ≡ c =
+      omega (arith, rank-miss 1 trits c l (λ q. omega arith), rank-three trits (P .threes) c (omega arith), no-twos, first-at .ranked) in
+      let twos : rank 2 trits (c + 1) ≡ 0 = rank-miss 2 trits c l (λ q. omega arith) ∙ no-twos in
+      λ i. record { ones = sym ones i; twos = sym twos i; zero = sym (last-hit c l e) i }
+
+  -- ---- where it ends: the last zero has the word of the roots' count
+
+  pub last-end : lastZero trits (length trits) ≡ length trits - 1
+  unfolding lastZero
+  last-end = ap (nth 0 trits) (rank-past 0 trits (length trits) (le-refl (length trits)) ∙ omega (arith, zeros-ones trits (P .is-balanced))) ∙ final-zero trits H P
+
+  after-last : after n ≡ counted (oneTo c)
+  unfolding listWords
+  after-last = rw (drop-of-length-le rows {i = n} (omega (arith, length-map (oneTo n) row, length-run 1 n)))
+
+  pub roots-word : getD (words (unpack trits H)) (wordAt trits (length trits - 1)) 0 ≡ c
+  roots-word =
+      ap (λ (x : ℕ). getD (words (unpack trits H)) x 0) (ap (wordAt trits) (sym (final-zero trits H P)) ∙ sym (add-zero (wordAt trits (z n))))
+      ∙ word-after n 0 (le-refl n) ∙ ap (λ (l : List ℕ). getD l 0 0) after-last ∙ length-run 1 c
+
+  pub roots-rest : (w : ℕ) → w ≡ wordAt trits (length trits - 1) + 1 → drop w (words (unpack trits H)) ≡ oneTo c
+  unfolding words unpack
+  roots-rest w e =
+      let f : w ≡ suc (z n - c + 1) = e ∙ omega (arith, final-zero trits H P) in
+      ap (λ (x : ℕ). drop x (words (unpack trits H))) f ∙ sym (drop-drop 1 (z n - c) (after 0))
+      ∙ ap (drop 1) (after-is n (le-refl n) ∙ after-last)

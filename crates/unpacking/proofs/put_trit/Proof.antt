@@ -36,7 +36,7 @@ same-length : tie.Need-same-length
 same-length c = search needs
 
 returns : tie.Need-returns
-returns c = 
+returns c =
     let w = c .before .before in
     let t = w .before .before in
     let o = t .before .before .before .before in
@@ -54,7 +54,7 @@ add-next : tie.Need-add-next
 add-next c = let x = c .before .before .before .before .before .pre in omega (arith, ones-few (x .0) (x .1) (x .2) (x .3) (sym (c .before .before .trit-at .ensures) ∙ c .if2 .taken))
 
 put-word-requires-2 : tie.Need-put-word-requires-2
-put-word-requires-2 c κs = 
+put-word-requires-2 c κs =
     let t = c .before in
     let x = t .before .before .before .before .before .pre in
     omega (arith, ones-few (x .0) (x .1) (x .2) (x .3) (sym (t .before .before .trit-at .ensures) ∙ t .if2 .taken))
@@ -63,7 +63,7 @@ same-length-2 : tie.Need-same-length-2
 same-length-2 c = search needs
 
 returns-2 : tie.Need-returns-2
-returns-2 c = 
+returns-2 c =
     let w = c .before .before in
     let t = w .before .before in
     let o = t .before .before .before .before .before in
@@ -90,7 +90,7 @@ put-word-requires-3 : tie.Need-put-word-requires-3
 put-word-requires-3 c κs = search needs
 
 add-t22 : tie.Need-add-t22
-add-t22 c = 
+add-t22 c =
     let t = c .before .before .before .before .before .before in
     let x = t .before .before .before .before .before .pre in
     omega (arith, shadow-inside (x .0) (x .1) (x .2) (x .3) (two t))
@@ -99,13 +99,12 @@ same-length-3 : tie.Need-same-length-3
 same-length-3 c = search needs
 
 returns-3 : tie.Need-returns-3
-returns-3 c = 
+returns-3 c =
     let w = c .before .before in
     let g = w .before .before in
     let t = g .before .before in
     let o = t .before .before .before .before .before in
-    let x = o .pre in
-    (
+    let x = o .pre in (
       stand-two (x .0) (x .1) (x .2) (x .3) (two t),
       w .put-word3 .ensures ∙ ap (set (o .args .table .now) _) (g .get2 .ensures .0) ∙ two-put (x .0) (x .1) (x .2) (x .3) (o .args .table .now) (two t),
     )
