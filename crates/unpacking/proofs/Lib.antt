@@ -3,3 +3,4 @@ pub mod WordLaws
 pub mod FillLaws
 pub mod StandLaws
 pub mod RowLaws
+pub mod OutcomeLaws

@@ -1,11 +1,15 @@
 // The unpacker: an image's table, in level order, into a lent table. One pass over the trits from the first zero on; each has one word of the
 // table, and after them come the roots.
+use format::Refusal;
+use format::Unpacked;
 use little::get2;
+use proper::check::Examined;
 ghost use mathlib.Core.Path.{_≡_};
 ghost use Prim.Native.Nat.{_+_, _-_, _≤_, _<_};
 ghost use lib.ListN.{length, set};
 ghost use Rattle.format.specs.Lists.{oneTo, over};
 ghost use Rattle.format.specs.Proper.{tritsOf, shadowsOf};
+ghost use Rattle.format.specs.Unpack.{unpackOutcome, unpackLeaves};
 ghost use Rattle.little.specs.Put.{putAt};
 ghost use Rattle.trits.specs.Layout.{Laid};
 ghost use Rattle.unpacking.specs.Standing.{tableOf, standAt, tritPut, overFirst};
@@ -112,4 +116,21 @@ fn put_table(image: &[u8], lay: trits::Layout, table: &mut [u16])
     let at = end - roots + 1;
     put_rows(image, lay, table);
     put_roots(table, at, roots);
+}
+
+// Unpacks an image into a lent table, in level order.
+pub fn unpack(image: &[u8], table: &mut [u16]) -> format::Unpacked
+    ensures { λ r. ⌜ unpackOutcome (now (image .entry)) (now (table .entry)) ≡ unpackLeaves r (now (table .exit)) ⌝ }
+{
+    match proper::check::examine(image) {
+        Examined::Refused(f) => Unpacked::Refused(f),
+        Examined::Proper(lay) => {
+            let length = lay.trits + 1;
+            if table.len() < length {
+                return Unpacked::Refused(Refusal::TableTooShort);
+            }
+            put_table(image, lay, table);
+            Unpacked::Table(length)
+        }
+    }
 }
