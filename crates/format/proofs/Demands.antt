@@ -110,6 +110,10 @@ module _ (b buffer : List ℕ) where
       → unpackOutcome b buffer ≡ record { returned = stops 51; table = buffer }
   unpacking-51 = outcomes.unpack-51 b buffer
 
+  -- the length returned fits 32 bits
+  pub unpacking-fits : Below 256 b → unpackOutcome b buffer .returned .value < 4294967296
+  unpacking-fits = ranges.unpack-short b buffer
+
   pub unpacking-kept : Below 256 b → let o = unpackOutcome b buffer in (length (o .table) ≡ length buffer) × (Below 65536 buffer → Below 65536 (o .table))
   unpacking-kept = promises.unpacking-kept b buffer
 

@@ -1,4 +1,4 @@
--- The codes that each entry can give, that an image's length fits 32 bits, and that every answer on proper trits has a case and fits its words.
+-- The codes that each entry can give, that the lengths of images and tables fit 32 bits, and that every answer on proper trits has a case and fits its words.
 -- Assumes nothing.
 use Prim.Native.Nat.{ℕ, zero, suc, _/_, _%_, _≤_, _<_}
 use native.Mathlib.Omega.{arith}
@@ -15,7 +15,7 @@ use Rattle.format.specs.Lists.{All, consIf, keep, numbered, run, oneTo, 
 use Rattle.format.specs.Table.{isNode, words}
 use Rattle.format.specs.Trits.{rank, select}
 use Rattle.format.specs.Level.{walk}
-use Rattle.format.specs.Image.{nodeCount, edgeCount, marked, markedNodes, image}
+use Rattle.format.specs.Image.{nodeCount, rootCount, edgeCount, marked, markedNodes, image}
 use Rattle.format.specs.Faults.{fault, _then_}
 use Rattle.format.specs.Proper.{ProperTrits, checkImage, tritsOf, shadowsOf, ImageCode}
 use Rattle.format.specs.Edges.{Edge, isEdge, edgeAt, edgeList, operandEdges, useEdges}
@@ -35,10 +35,12 @@ use Rattle.format.proofs.Sizes.{imageLength, length-image}
 use Rattle.format.proofs.CheckLaws.{shadow-nodes, limits-nodes, image-passed}
 use Rattle.format.proofs.Steps.{image-code}
 use Rattle.format.proofs.Facts.{Edged, edge-places, user-node, operand-node, length-edges, operands-le}
-use Rattle.format.proofs.Accepting.{each-all, proper-table}
-use Rattle.format.proofs.Outcomes.{pack-cases}
+use Rattle.format.proofs.Accepting.{each-all, proper-table, reads-as}
+use Rattle.format.proofs.Outcomes.{pack-cases, length-words}
 use Rattle.format.proofs.Laws.{rank-count}
-use Rattle.format.proofs.FaultLaws.{then-in, fault-in}
+use Rattle.format.proofs.FaultLaws.{then-in, then-zero, fault-in}
+use Rattle.format.proofs.Neighbours.{unpack-accepted, unpack-nodes}
+use Rattle.format.proofs.Sums.{roots-nodes}
 use Rattle.format.proofs.ImageReads.{each-append}
 use Rattle.format.proofs.BatchLaws.{batch-ran, batch-runs, batch-refused}
 use Rattle.format.proofs.Digits.{below-drop}
@@ -84,6 +86,32 @@ unpack-codes image buffer =
     go : (ws : List ℕ) (x : ℕ) → ImageCode x ⊎ (x ≡ 51) → ImageCode (unpackSettled x ws buffer .returned .code) ⊎ (unpackSettled x ws buffer .returned .code ≡ 51)
     go ws zero h = h
     go ws (suc x) h = h
+
+-- a table has at most 125,537 words, so its length fits 32 bits
+table-short : (trits H : List ℕ) → ProperTrits trits H → length (words (unpack trits H)) < 4294967296
+unfolding unpack
+table-short trits H p =
+    let g = unpack trits H in
+    omega (
+      arith,
+      length-words g,
+      reads-as (words g) g (unpack-accepted trits H p) .2 .edges-fit,
+      unpack-nodes trits H p,
+      limits-nodes trits (p .in-limits),
+      length-run 1 (rootCount trits),
+      roots-nodes trits,
+    )
+
+pub unpack-short : (image buffer : List ℕ) → Below 256 image → unpackOutcome image buffer .returned .value < 4294967296
+unfolding unpackOutcome
+unpack-short image buffer low =
+    let ws : List ℕ = words (unpack (tritsOf image) (shadowsOf image)) in
+    go ws (checkImage image then fault 51 (leb (length ws) (length buffer)))
+    (λ e. table-short (tritsOf image) (shadowsOf image) (image-passed image low (then-zero (checkImage image) _ e .0) .proper))
+  where
+    go : (ws : List ℕ) (x : ℕ) → (x ≡ 0 → length ws < 4294967296) → unpackSettled x ws buffer .returned .value < 4294967296
+    go ws zero h = h refl
+    go ws (suc x) h = lit< tt
 
 -- 0, 21 to 26, or 41 to 43
 abbrev pub BatchCode : ℕ → Type 0

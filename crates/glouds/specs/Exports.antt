@@ -3,6 +3,7 @@ use Prim.Native.Nat.{ℕ, _+_, _*_}
 use mathlib.Core.List.{List}
 use Rattle.format.specs.Answers.{Numbers}
 use Rattle.format.specs.Packing.{PackOutcome}
+use Rattle.format.specs.Unpack.{UnpackOutcome}
 
 -- refusal · 2^32 + value
 abbrev pub asWord : Numbers → ℕ
@@ -21,3 +22,14 @@ packExport o = record { word = asWord (o .returned); order = o .order; work = o 
 -- what an entry that answers r leaves
 abbrev pub packExported : ℕ → List ℕ → List ℕ → List ℕ → PackExport
 packExported r order work image = record { word = r; order = order; work = work; image = image }
+
+pub record UnpackExport : Type 0 where
+  pub word : ℕ
+  pub table : List ℕ
+
+-- unpacking's outcome, its answer as one word
+abbrev pub unpackExport : UnpackOutcome → UnpackExport
+unpackExport o = record { word = asWord (o .returned); table = o .table }
+
+abbrev pub unpackExported : ℕ → List ℕ → UnpackExport
+unpackExported r table = record { word = r; table = table }

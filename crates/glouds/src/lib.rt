@@ -3,7 +3,8 @@
 ghost use mathlib.Core.Path.{_≡_};
 ghost use Rattle.format.specs.Packing.{packOutcome};
 ghost use Rattle.format.specs.Proper.{checkImage};
-ghost use Rattle.glouds.specs.Exports.{packExport, packExported};
+ghost use Rattle.format.specs.Unpack.{unpackOutcome};
+ghost use Rattle.glouds.specs.Exports.{packExport, packExported, unpackExport, unpackExported};
 
 // Packs a table: the image's length, or a refusal from 1 to 9.
 #[no_mangle]
@@ -33,5 +34,19 @@ pub extern "C" fn glouds_check(image: &[u8]) -> u32
     match proper::check::check(image) {
         format::Checked::Proper => 0,
         format::Checked::Refused(r) => format::number(r),
+    }
+}
+
+// Unpacks an image: the table's length in words, or a refusal from 21 to 26 or 51.
+#[no_mangle]
+pub extern "C" fn glouds_unpack(image: &[u8], table: &mut [u16]) -> u64
+    ensures { λ r. ⌜ unpackExport (unpackOutcome (now (image .entry)) (now (table .entry))) ≡ unpackExported r (now (table .exit)) ⌝ }
+{
+    match unpacking::unpack(image, table) {
+        format::Unpacked::Table(size) => size as u64,
+        format::Unpacked::Refused(r) => {
+            let number = format::number(r);
+            4294967296 * (number as u64)
+        }
     }
 }

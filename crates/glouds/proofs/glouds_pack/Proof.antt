@@ -1,6 +1,8 @@
 -- `glouds::glouds_pack` meets its contract: pack's equation, with the answer as one word. Assumes nothing.
+use mathlib.Core.Path.{ap}
 use borrow.Author.Needs.{needs}
-use Rattle.glouds.proofs.Words.{image-word, refused-word}
+use Rattle.format.specs.Answers.{packedNumbers}
+use Rattle.glouds.proofs.Words.{length-word, refused-word, pack-word}
 use Rattle.glouds.proofs.glouds_pack.Statement.{statement}
 use Rattle.glouds.proofs.glouds_pack.Tie as tie
 
@@ -8,13 +10,13 @@ returns : tie.Need-returns
 returns c =
     let chosen = c .before .before .before .before .before in
     let packed = chosen .before .before .before .before in
-    image-word (packed .pack .result) (packed .pack .ensures) _ (c .before .size .given .1)
+    pack-word (packed .pack .result) (packed .pack .ensures) (length-word _ _ (ap packedNumbers (c .before .size .given .1)))
 
 returns-2 : tie.Need-returns-2
 returns-2 c =
     let chosen = c .before .before .before .before .before .before in
     let packed = chosen .before .before .before .before in
-    refused-word (packed .pack .result) (packed .pack .ensures) _ _ (c .before .before .r .given .1) (c .number .ensures)
+    pack-word (packed .pack .result) (packed .pack .ensures) (refused-word _ (c .before .before .r .given .0 .0) _ (ap packedNumbers (c .before .before .r .given .1)) (c .number .ensures))
 
 pub glouds-pack-spec : {M : Type 1} → statement M
 glouds-pack-spec =
