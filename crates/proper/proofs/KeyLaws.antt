@@ -203,11 +203,11 @@ refuted true h = absurd (h refl)
 refuted false h = refl
 
 module _ {trits H part : List ℕ} {e low : ℕ} (C : Climbed trits H part e low) where
-  pub climbed-next : {k : ℕ} → Rises trits H low (entries part e) × (k ≡ key trits H (entries part e)) → Climbed trits H part (e + 1) (k + 1)
+  pub climbed-next : {k : ℕ} → Rises trits H low (entries part e) → k ≡ key trits H (entries part e) → Climbed trits H part (e + 1) (k + 1)
   unfolding lowAt
-  climbed-next r = record {
-    next = rw (r .1, add-one (key trits H (entries part e)), add-one e);
-    right = below-more (λ i. Rises trits H (lowAt trits H (entries part) i) (entries part i)) e (C .right) (rw (C .next) at (r .0));
+  climbed-next r k = record {
+    next = rw (k, add-one (key trits H (entries part e)), add-one e);
+    right = below-more (λ i. Rises trits H (lowAt trits H (entries part) i) (entries part i)) e (C .right) (rw (C .next) at r);
   }
 
   module _ (P : ProperTrits trits H) where

@@ -1,10 +1,11 @@
 -- What the checker of section 5 counts and compares: the twos before a place, and the key by which the places rise. Assumes nothing.
-use Prim.Native.Nat.{ℕ, _+_, _*_, _≤_, _<_}
+use Prim.Native.Nat.{ℕ, _+_, _*_, _/_, _≤_, _<_}
 use mathlib.Core.Path.{_≡_}
 use mathlib.Core.List.{List}
 use lib.ListN.{length, getD}
 use Rattle.format.specs.Trits.{rank}
 use Rattle.format.specs.Image.{shadowAt}
+use Rattle.proper.specs.declared.placed.Seat.{Seat}
 use Rattle.proper.specs.declared.placed.Entry.{Entry}
 use Rattle.proper.specs.declared.placed.Entry.the-variants.{Wrong, Key}
 
@@ -16,6 +17,15 @@ TwosAt trits twos = (i : ℕ) → 65 * i ≤ length trits → getD twos i 0 ≡ 
 pub record Filled (trits old twos : List ℕ) : Type 0 where
   pub counted : TwosAt trits twos
   pub others : (i : ℕ) → length trits < 65 * i → getD twos i 0 ≡ getD old i 0
+
+-- as many twos stand before a seat's tryte as it says
+abbrev pub Seated : List ℕ → Seat → Type 0
+Seated trits s = s .before ≡ rank 2 trits (5 * s .tryte)
+
+-- and that is the tryte of place p
+pub record SeatOf (trits : List ℕ) (p : ℕ) (s : Seat) : Type 0 where
+  pub of : s .tryte ≡ p / 5
+  pub seated : Seated trits s
 
 -- a place's key: its shadow, then itself
 unfoldable pub key : List ℕ → List ℕ → ℕ → ℕ
@@ -30,4 +40,4 @@ pub record Rises (trits H : List ℕ) (low p : ℕ) : Type 0 where
 -- what an entry p is answered by, where the key before it is below low
 abbrev pub Answered : List ℕ → List ℕ → ℕ → ℕ → Entry → Type 0
 Answered trits H low p Wrong = Rises trits H low p → ⊥
-Answered trits H low p (Key k) = Rises trits H low p × (k ≡ key trits H p)
+Answered trits H low p (Key k s) = Rises trits H low p × (k ≡ key trits H p) × SeatOf trits p s

@@ -15,12 +15,18 @@ ghost use Rattle.format.specs.Image.{bytes, nodeCount, grouped};
 ghost use Rattle.format.proofs.ImageReads.{read};
 ghost use Rattle.samples.specs.Lent.{TritsIn};
 ghost use Rattle.proper.specs.Known.{Known};
-ghost use Rattle.proper.specs.Places.{TwosAt, Filled, Answered};
+ghost use Rattle.proper.specs.Places.{TwosAt, Filled, Seated, SeatOf, Answered};
 
-// An entry of section 5: wrong, or its key.
+// A tryte, and the twos before it.
+struct Seat {
+    tryte: usize,
+    before: usize,
+}
+
+// An entry of section 5: wrong, or its key and the seat of its place.
 enum Entry {
     Wrong,
-    Key(usize),
+    Key(usize, Seat),
 }
 
 // A count of twos as an index.
@@ -66,22 +72,42 @@ fn sample_twos(bs: &[u8], table: &[u8; 243], l: usize, twos: &mut [u16; 1932])
     }
 }
 
-// The twos before place `p`: those before the last multiple of 65, at most 12 whole trytes, and part of one.
-fn twos_before(bs: &[u8], table: &[u8; 243], twos: &[u16; 1932], p: usize) -> usize
-    requires { ⌜ (now table ≡ tryteTable) × ((trits : List ℕ) × TritsIn trits (now bs) × TwosAt trits (now twos) × (p < length trits)) ⌝ }
-    ensures { λ r. ⌜ ((trits : List ℕ) → TritsIn trits (now (bs .entry)) → TwosAt trits (now (twos .entry)) → p < length trits
-        → r ≡ rank 2 trits p) ⌝ }
+// The seat of place `p`: counted on from the seat `last` if that is at most 12 trytes back, or else from the last multiple of 65.
+fn seat_at(bs: &[u8], table: &[u8; 243], twos: &[u16; 1932], last: Seat, p: usize) -> Seat
+    requires { ⌜ (now table ≡ tryteTable)
+        × ((trits : List ℕ) × TritsIn trits (now bs) × TwosAt trits (now twos) × Seated trits last × (p < length trits)) ⌝ }
+    ensures { λ r. ⌜ ((trits : List ℕ) → TritsIn trits (now (bs .entry)) → TwosAt trits (now (twos .entry)) → Seated trits last → p < length trits
+        → SeatOf trits p r) ⌝ }
 {
+    let end = p / 5;
+    let start = last.tryte;
+    if start <= end {
+        if end < start + 13 {
+            let on = twos_to(bs, table, start, end, last.before);
+            return Seat {
+                tryte: end,
+                before: on,
+            };
+        }
+    }
     let i = p / 65;
     let sample = wide16(twos[i]);
     let from = 13 * i;
-    let end = p / 5;
-    let whole = twos_to(bs, table, from, end, sample);
-    let x = wide(bs[end]);
-    whole + tryte_part(x, 2, p % 5)
+    let before = twos_to(bs, table, from, end, sample);
+    Seat { tryte: end, before }
 }
 
-// Entry `e` of section 5: a place that holds a 2, with a key of at least `low`.
+// The twos before place `p`: those before its tryte, and part of that.
+fn twos_before(bs: &[u8], seat: Seat, p: usize) -> usize
+    requires { ⌜ ((trits : List ℕ) × TritsIn trits (now bs) × SeatOf trits p seat × (p < length trits)) ⌝ }
+    ensures { λ r. ⌜ ((trits : List ℕ) → TritsIn trits (now (bs .entry)) → SeatOf trits p seat → p < length trits → r ≡ rank 2 trits p) ⌝ }
+{
+    let q = seat.tryte;
+    let x = wide(bs[q]);
+    seat.before + tryte_part(x, 2, p % 5)
+}
+
+// Entry `e` of section 5: a place that holds a 2, with a key of at least `low`; `last` is a seat to count from.
 fn entry_key(
     bs: &[u8],
     hs: &[u8],
@@ -91,11 +117,12 @@ fn entry_key(
     l: usize,
     e: usize,
     low: usize,
+    last: Seat,
 ) -> Entry
     requires { ⌜ (now table ≡ tryteTable) × (4 * e + 4 ≤ length (now part))
-        × ((trits : List ℕ) × (H : List ℕ) × Known trits H (now bs) (now hs) × (length trits ≡ l) × TwosAt trits (now twos)) ⌝ }
+        × ((trits : List ℕ) × (H : List ℕ) × Known trits H (now bs) (now hs) × (length trits ≡ l) × TwosAt trits (now twos) × Seated trits last) ⌝ }
     ensures { λ r. ⌜ ((trits H : List ℕ) → Known trits H (now (bs .entry)) (now (hs .entry)) → length trits ≡ l → TwosAt trits (now (twos .entry))
-        → Answered trits H low (read 4 (4 * e) (now (part .entry))) r) ⌝ }
+        → Seated trits last → Answered trits H low (read 4 (4 * e) (now (part .entry))) r) ⌝ }
 {
     let at = 4 * e;
     let p = get4(part, at);
@@ -105,14 +132,15 @@ fn entry_key(
     if trit(bs, p) != 2 {
         return Entry::Wrong;
     }
-    let j = twos_before(bs, table, twos, p);
+    let seat = seat_at(bs, table, twos, last, p);
+    let j = twos_before(bs, seat, p);
     let from = 2 * j;
     let shadow = get2(hs, from);
     let key = 131072 * shadow + p;
     if key < low {
         return Entry::Wrong;
     }
-    Entry::Key(key)
+    Entry::Key(key, seat)
 }
 
 // Section 5: the places of the twos, grouped by node rising, then by place.
@@ -125,12 +153,17 @@ pub fn places_right(bs: &[u8], hs: &[u8], table: &[u8; 243], part: &[u8], l: usi
     sample_twos(bs, table, l, &mut twos);
     let many = part.len() / 4;
     let mut low: usize = 0;
+    let mut last = Seat {
+        tryte: 0,
+        before: 0,
+    };
     let mut e: usize = 0;
     while e < many {
-        let Entry::Key(key) = entry_key(bs, hs, table, &twos, part, l, e, low) else {
+        let Entry::Key(key, seat) = entry_key(bs, hs, table, &twos, part, l, e, low, last) else {
             return false;
         };
         low = key + 1;
+        last = seat;
         e += 1;
     }
     true
