@@ -186,7 +186,7 @@ fn from4(bs: &[u8], hs: &[u8], marks: &[u8], rest: &[u8], lay: trits::Layout) ->
         return Checked::Refused(f);
     }
     let n = lay.nodes;
-    let right = crate::started::starts_right(hs, contents(rest, size), n);
+    let right = crate::started::starts_right(hs, marks, contents(rest, size), n);
     if right {
         return from5(bs, hs, marks, after(rest, size), lay);
     }

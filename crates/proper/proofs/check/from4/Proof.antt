@@ -43,7 +43,7 @@ starts-right-requires : tie.Need-starts-right-requires
 starts-right-requires c κs =
     let p = c .before .before .before .before .before .before .before .before .before .pre in
     let C = counted (p .2) in
-    (p .0, p .1, p .2 .known .shadowed, sym (counted-nodes C), c .contents .ensures .1 ∙ ap (λ (k : ℕ). 4 * (k + 1)) (sym (counted-marked C)))
+    (p .0, p .1, p .2 .known .shadowed, p .2 .marked, sym (counted-nodes C), c .contents .ensures .1 ∙ ap (λ (k : ℕ). 4 * (k + 1)) (sym (counted-marked C)))
 
 -- what section 4 gives
 gives : (c : tie.After-starts-right) → let x = c .before .before .before .before .before .before .before .before .before .before .args in (trits H : List ℕ)
@@ -52,7 +52,7 @@ unfolding section4
 gives c trits H T =
     let C = counted T in
     given-right (front4 trits H (counted-marked C)) _ (c .starts-right .result) (front (c .before .before))
-    (c .starts-right .ensures trits H (T .known .shadowed) (sym (counted-nodes C)) ∙ ap (λ (l : List ℕ). same l (bytes 4 (starts trits H))) (c .before .contents .ensures .0))
+    (c .starts-right .ensures trits H (T .known .shadowed) (T .marked) (sym (counted-nodes C)) ∙ ap (λ (l : List ℕ). same l (bytes 4 (starts trits H))) (c .before .contents .ensures .0))
 
 returns-2 : tie.Need-returns-2
 unfolding given
