@@ -24,10 +24,10 @@ unpack-refused image table f h =
     unpack-improper image table (refusalNumber f - 1) (h ∙ e) ∙ ap {B = UnpackOutcome} (λ (x : ℕ). record { returned = stops x; table = table }) (sym e)
 
 module _ {image : List ℕ} {lay : Layout} (L : Laid image lay) (table : List ℕ) where
-  pub unpack-short : length table < lay .trits + 1 → unpackOutcome image table ≡ unpackLeaves (unpacked.Refused TableTooShort) table
+  pub unpack-short : length table ≤ lay .trits → unpackOutcome image table ≡ unpackLeaves (unpacked.Refused TableTooShort) table
   unpack-short h = unpack-51 image table (L .whole .passes) (omega (arith, sizes L))
 
-  pub unpack-whole : lay .trits + 1 ≤ length table → (put : List ℕ) → put ≡ over (tableOf image) table
+  pub unpack-whole : lay .trits < length table → (put : List ℕ) → put ≡ over (tableOf image) table
       → unpackOutcome image table ≡ unpackLeaves (unpacked.Table (lay .trits + 1)) put
   unpack-whole h put e =
       unpack-done image table (L .whole .passes) (omega (arith, sizes L))

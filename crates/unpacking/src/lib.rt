@@ -125,12 +125,12 @@ pub fn unpack(image: &[u8], table: &mut [u16]) -> format::Unpacked
     match proper::check::examine(image) {
         Examined::Refused(f) => Unpacked::Refused(f),
         Examined::Proper(lay) => {
-            let length = lay.trits + 1;
-            if table.len() < length {
+            let trits = lay.trits;
+            if table.len() <= trits {
                 return Unpacked::Refused(Refusal::TableTooShort);
             }
             put_table(image, lay, table);
-            Unpacked::Table(length)
+            Unpacked::Table(trits + 1)
         }
     }
 }

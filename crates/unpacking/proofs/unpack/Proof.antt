@@ -1,12 +1,10 @@
 -- `unpacking::unpack` meets its contract: a refused image, a table too short, or the table. Assumes nothing.
-use Prim.Native.Nat.{_<_}
 use native.Mathlib.Omega.{arith}
 use mathlib.Core.Path.{subst}
 use borrow.Author.Needs.{needs}
 use Rattle.proper.specs.Examined.{Examines}
 use Rattle.trits.specs.Layout.{Laid}
 use Rattle.trits.proofs.Levels.{accepted}
-use Rattle.unpacking.proofs.StandLaws.{sizes}
 use Rattle.unpacking.proofs.OutcomeLaws.{unpack-refused, unpack-short, unpack-whole}
 use Rattle.unpacking.proofs.unpack.Statement.{statement}
 use Rattle.unpacking.proofs.unpack.Tie as tie
@@ -19,10 +17,10 @@ laid c =
     accepted (e .before .before .shared-slice-known .given) (x .0) (x .1)
 
 returns : tie.Need-returns
-returns c = unpack-short (laid (c .before .before .before)) _ (c .if1 .taken)
+returns c = unpack-short (laid (c .before .before)) _ (c .if1 .taken)
 
 put-table-requires : tie.Need-put-table-requires
-put-table-requires c κs = (laid (c .before .before .before .before), omega arith)
+put-table-requires c κs = (laid (c .before .before .before), omega arith)
 
 returns-2 : tie.Need-returns-2
 returns-2 c =
@@ -33,7 +31,7 @@ returns-3 : tie.Need-returns-3
 returns-3 c =
     let w = c .before .before in
     let t = w .before .before in
-    unpack-whole (laid (t .before .before .before)) _ (omega arith) _ (w .put-table .ensures)
+    unpack-whole (laid (t .before .before)) _ (omega arith) _ (w .put-table .ensures)
 
 pub unpack-spec : {M : Type 1} → statement M
 unpack-spec =
@@ -42,9 +40,9 @@ unpack-spec =
     (λ c κs. search needs)
     (λ c. search needs)
     (λ c. search needs)
-    (λ c. omega (arith, sizes (laid (c .before .before))))
     returns
     put-table-requires
+    (λ c. omega arith)
     returns-2
     (λ c. search needs)
     returns-3)
