@@ -16,7 +16,7 @@ use Rattle.format.proofs.Outcomes.{unpack-improper, unpack-51, unpack-done}
 use Rattle.trits.specs.declared.Layout.{Layout}
 use Rattle.trits.specs.Layout.{Laid}
 use Rattle.unpacking.specs.Standing.{tableOf}
-use Rattle.unpacking.proofs.StandLaws.{sizes}
+use Rattle.unpacking.proofs.SizeLaws.{sizes}
 
 pub unpack-refused : (image table : List ℕ) (f : Refusal) → checkImage image ≡ refusalNumber f → unpackOutcome image table ≡ unpackLeaves (unpacked.Refused f) table
 unpack-refused image table f h =

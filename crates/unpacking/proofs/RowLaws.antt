@@ -1,16 +1,15 @@
 -- The pass over the trits: before place p every word of the table stands but the count of the last zero's operands. Assumes nothing.
-use Prim.Native.Nat.{ℕ, zero, suc, _+_, _-_, _≤_, _<_}
+use Prim.Native.Nat.{ℕ, zero, _+_, _-_, _≤_, _<_}
 use native.Mathlib.Omega.{arith}
 use native.Mathlib.Decide.{ℕ-discrete}
-use mathlib.Core.Path.{_≡_, refl, sym, ap, ap₂, _∙_}
+use mathlib.Core.Path.{_≡_, sym, ap, ap₂, _∙_}
 use mathlib.Core.List.{List, _++_}
-use lib.ListN.{length, getD, take, drop, set, length-set}
+use lib.ListN.{length, getD, take, set, length-set}
 use lib.Seq.{set-set, drop-set-lt}
 use Rattle.format.specs.Lists.{oneTo, over}
-use Rattle.format.specs.Image.{nodeCount, rootCount}
+use Rattle.format.specs.Image.{rootCount}
 use Rattle.format.specs.Table.{words}
 use Rattle.format.specs.Proper.{tritsOf, shadowsOf}
-use Rattle.format.specs.Unpack.{unpack}
 use Rattle.format.proofs.Laws.{length-run}
 use Rattle.format.proofs.Neighbours.{unpack-nodes}
 use Rattle.format.proofs.OnImage.{proper}
@@ -21,7 +20,7 @@ use Rattle.unpacking.specs.declared.Stand.{Stand}
 use Rattle.unpacking.specs.Standing.{tableOf, lastZero, standAt, wordAt, tritPut, overFirst}
 use Rattle.unpacking.proofs.FillLaws.{Filled, filled-first, filled-next, filled-late, over-end}
 use Rattle.unpacking.proofs.WordLaws.{stand-first, last-hit, last-miss, last-end, zero-word, other-word, roots-word, roots-rest, put-zero, put-other}
-use Rattle.unpacking.proofs.StandLaws.{sizes}
+use Rattle.unpacking.proofs.SizeLaws.{sizes}
 
 -- The unpacker stands before place p, and has put the words up to there.
 pub record Rows (b : List ℕ) (lay : Layout) (old table : List ℕ) (p : ℕ) (s : Stand) : Type 0 where
@@ -81,10 +80,10 @@ module _ {b : List ℕ} {lay : Layout} (L : Laid b lay) where
         go : Dec (getD trits p 0 ≡ 0) → Filled ws old (tritPut trits H p table) (wordAt trits (lastZero trits (p + 1))) (wordAt trits p + 1)
         go (yes z) =
             rw (put-zero trits H p table z, last-hit (proper (L .whole)) p l z)
-            (filled-late (R .filled) room _ (sym (zero-word (proper (L .whole)) p a (omega (arith, l)) l z)))
+            (filled-late (R .filled) room _ (sym (zero-word (proper (L .whole)) p a l z)))
         go (no z) =
             rw (put-other trits H p table z, last-miss (proper (L .whole)) p l z)
-            (filled-next (R .filled) room _ (sym (other-word (proper (L .whole)) p a (omega (arith, l)) l z)))
+            (filled-next (R .filled) room _ (sym (other-word (proper (L .whole)) p a l z)))
 
     -- the last: the count of the roots
     pub rows-last : (entry : List ℕ) (x : ℕ) → old ≡ set entry 0 x → lay .trits ≤ p

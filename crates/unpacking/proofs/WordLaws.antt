@@ -9,7 +9,7 @@ use mathlib.Core.List.{List, [], _∷_, _++_, map, map-map, append-assoc}
 use borrow.Author.Tests.{eq-eqb, ne-eqb}
 use lib.ListN.{length, getD, set, drop, length-map, drop-of-length-le, List·getD-append}
 use lib.Seq.{drop-cons, drop-at, drop-drop, getD-drop}
-use Rattle.format.specs.Lists.{run, oneTo, countIn}
+use Rattle.format.specs.Lists.{run, oneTo}
 use Rattle.format.specs.Table.{counted, listWords, words}
 use Rattle.format.specs.Trits.{rank, places, Selected}
 use Rattle.format.specs.Image.{nodeCount, rootCount}
@@ -131,7 +131,7 @@ module _ {trits H : List ℕ} (P : ProperTrits trits H) where
   first-at = subst (Selected 0 trits 1) (first-zero trits H P) (zero-at 0 zero-le)
 
   -- past the first zero
-  module _ (p : ℕ) (a : c < p) (l : p ≤ length trits) where
+  module _ (p : ℕ) (a : c < p) (l : p < length trits) where
     -- the zeros before the last
     abbrev j : ℕ
     j = rank 0 trits p - 1
@@ -153,14 +153,14 @@ module _ {trits H : List ℕ} (P : ProperTrits trits H) where
     pub last-past : lastZero trits p < p
     last-past = omega (arith, last-is, lt-of-rank 0 trits (z j) p (omega (arith, some, zero-at j few .ranked)))
 
-    pub zero-word : p < length trits → getD trits p 0 ≡ 0 → getD (words (unpack trits H)) (wordAt trits (lastZero trits p)) 0 ≡ p - lastZero trits p - 1
-    zero-word q e =
-        let h : j < n = omega (arith, some, rank-here 0 trits p q e, rank-count 0 trits (suc p), zeros-ones trits (P .is-balanced)) in
-        let f : z (suc j) ≡ p = ap z (sym some) ∙ zero-is p q e in
+    pub zero-word : getD trits p 0 ≡ 0 → getD (words (unpack trits H)) (wordAt trits (lastZero trits p)) 0 ≡ p - lastZero trits p - 1
+    zero-word e =
+        let h : j < n = omega (arith, some, rank-here 0 trits p l e, rank-count 0 trits (suc p), zeros-ones trits (P .is-balanced)) in
+        let f : z (suc j) ≡ p = ap z (sym some) ∙ zero-is p l e in
         ap (λ (x : ℕ). getD (words (unpack trits H)) (wordAt trits x) 0) last-is ∙ count-word j h ∙ omega (arith, last-is)
 
-    pub other-word : p < length trits → (getD trits p 0 ≡ 0 → ⊥) → getD (words (unpack trits H)) (wordAt trits p) 0 ≡ operandAt trits H p
-    other-word q e = go (decLe (suc j) n)
+    pub other-word : (getD trits p 0 ≡ 0 → ⊥) → getD (words (unpack trits H)) (wordAt trits p) 0 ≡ operandAt trits H p
+    other-word e = go (decLe (suc j) n)
       where
         go : Dec (suc j ≤ n) → getD (words (unpack trits H)) (wordAt trits p) 0 ≡ operandAt trits H p
         go (no m) = let f : j ≡ n = omega (arith, few) in absurd (omega (arith, last-past, last-is, ap z f, final-zero trits H P))

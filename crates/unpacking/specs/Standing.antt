@@ -1,5 +1,6 @@
 -- Where the unpacker stands among the trits, and what it puts into the table there. Assumes nothing.
-use Prim.Native.Nat.{ℕ, _+_, _-_}
+use Prim.Native.Nat.{ℕ, _+_, _-_, _<_}
+use mathlib.Core.Path.{_≡_}
 use mathlib.Core.Bool.{cond}
 use mathlib.Core.List.{List, _++_}
 use lib.Dec.{eqb}
@@ -11,6 +12,8 @@ use Rattle.format.specs.Edges.{operandAt}
 use Rattle.format.specs.Proper.{tritsOf, shadowsOf}
 use Rattle.format.specs.Unpack.{unpack}
 use Rattle.format.proofs.ProperLaws.{nth}
+use Rattle.trits.specs.declared.Layout.{Layout}
+use Rattle.trits.specs.Layout.{Laid}
 use Rattle.unpacking.specs.declared.Stand.{Stand}
 
 -- the table of an image
@@ -23,6 +26,13 @@ lastZero trits p = nth 0 trits (rank 0 trits p)
 
 abbrev pub standAt : List ℕ → ℕ → Stand
 standAt trits p = record { ones = rank 1 trits p; twos = rank 2 trits p; zero = lastZero trits p }
+
+-- s is where the unpacker stands before a place of an accepted image, past the first zero
+pub record Standing (image : List ℕ) (lay : Layout) (p : ℕ) (s : Stand) : Type 0 where
+  pub laid : Laid image lay
+  pub is : s ≡ standAt (tritsOf image) p
+  pub from : lay .roots < p
+  pub inside : p < lay .trits
 
 -- the table's word for the trit at place p, from the first zero on
 abbrev pub wordAt : List ℕ → ℕ → ℕ

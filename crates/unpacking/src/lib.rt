@@ -12,7 +12,7 @@ ghost use Rattle.format.specs.Proper.{tritsOf, shadowsOf};
 ghost use Rattle.format.specs.Unpack.{unpackOutcome, unpackLeaves};
 ghost use Rattle.little.specs.Put.{putAt};
 ghost use Rattle.trits.specs.Layout.{Laid};
-ghost use Rattle.unpacking.specs.Standing.{tableOf, standAt, tritPut, overFirst};
+ghost use Rattle.unpacking.specs.Standing.{Standing, tableOf, standAt, tritPut, overFirst};
 
 // The ones and the twos before a place, and the place of the last zero, whose word awaits the count of its operands.
 struct Stand {
@@ -31,7 +31,7 @@ fn put_word(table: &mut [u16], at: usize, x: usize)
 
 // Puts what the trit at place `p` says: a zero, the count of the operands since the last zero; another, its operand.
 fn put_trit(image: &[u8], lay: trits::Layout, table: &mut [u16], p: usize, s: Stand) -> Stand
-    requires { ⌜ Laid (now image) lay × (s ≡ standAt (tritsOf (now image)) p) × (lay .roots < p) × (p < lay .trits) × (lay .trits < length (now table)) ⌝ }
+    requires { ⌜ Standing (now image) lay p s × (lay .trits < length (now table)) ⌝ }
     ensures { λ r. ⌜ (r ≡ standAt (tritsOf (now (image .entry))) (p + 1))
         × (now (table .exit) ≡ tritPut (tritsOf (now (image .entry))) (shadowsOf (now (image .entry))) p (now (table .entry))) ⌝ }
 {

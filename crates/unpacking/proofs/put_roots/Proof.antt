@@ -1,8 +1,6 @@
 -- `unpacking::put_roots` meets its contract: after i turns 1 to i stand in their words. Assumes nothing.
 use Prim.Native.Nat.{_-_}
 use native.Mathlib.Omega.{arith}
-use mathlib.Core.Path.{sym, subst}
-use borrow.Author.Needs.{needs}
 use Rattle.unpacking.proofs.FillLaws.{Listed, listed-none, listed-length, listed-next, listed-all}
 use Rattle.unpacking.proofs.put_roots.Statement.{statement}
 use Rattle.unpacking.proofs.put_roots.Tie as tie

@@ -2,17 +2,12 @@
 use Prim.Native.Nat.{_-_, _<_}
 use native.Mathlib.Omega.{arith}
 use mathlib.Core.Path.{_≡_, ap, _∙_}
-use borrow.Author.Needs.{needs}
 use lib.ListN.{length, length-set}
 use Rattle.unpacking.proofs.FillLaws.{filled-length}
-use Rattle.unpacking.proofs.StandLaws.{sizes}
+use Rattle.unpacking.proofs.SizeLaws.{sizes}
 use Rattle.unpacking.proofs.RowLaws.{Rows, rows-first, rows-next, rows-last}
 use Rattle.unpacking.proofs.put_rows.Statement.{statement}
 use Rattle.unpacking.proofs.put_rows.Tie as tie
-use Rattle.unpacking.proofs.put_rows.Reads as reads
-use Rattle.unpacking.proofs.put_rows.Lts as lts
-use Rattle.unpacking.proofs.put_trit.Reads as put-trit-reads
-use Rattle.unpacking.proofs.put_word.Reads as put-word-reads
 
 abbrev Inv-loop : tie.InvT-loop
 Inv-loop image lay table₀ end nodes roots s₀ p₀ table s p = Rows image lay table₀ table p s
@@ -46,7 +41,7 @@ put-trit-requires c κs =
     let t = c .before in
     let r = t .before .loop .inv in
     let x = t .before .before .before .before .before .before .before .before .pre in
-    (x .0, r .stands, r .from, t .loop-test .taken, room (t .before))
+    (record { laid = x .0; is = r .stands; from = r .from; inside = t .loop-test .taken }, room (t .before))
 
 add-p-2 : tie.Need-add-p-2 Inv-loop μ-loop
 add-p-2 c = omega arith

@@ -6,7 +6,7 @@ use Prim.Native.Nat.{ℕ, _+_, _-_}
 use borrow.Author.Needs.{needs}
 use Rattle.format.specs.Lists.{oneTo}
 use Rattle.little.specs.Put.{putAt}
-use Rattle.unpacking.proofs.StandLaws.{sizes}
+use Rattle.unpacking.proofs.SizeLaws.{sizes}
 use Rattle.unpacking.proofs.RowLaws.{roots-last}
 use Rattle.unpacking.proofs.put_table.Statement.{statement}
 use Rattle.unpacking.proofs.put_table.Tie as tie
