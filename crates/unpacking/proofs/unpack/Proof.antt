@@ -17,7 +17,7 @@ laid c =
     accepted (e .before .before .shared-slice-known .given) (x .0) (x .1)
 
 returns : tie.Need-returns
-returns c = unpack-short (laid (c .before .before)) _ (c .if1 .taken)
+returns c = let o = c .before .before .before .before .before .before .before in unpack-short (laid (c .before .before)) (o .args .table .now) (omega arith)
 
 put-table-requires : tie.Need-put-table-requires
 put-table-requires c κs = (laid (c .before .before .before), omega arith)
