@@ -1,6 +1,6 @@
 -- The table of proper trits and shadows, word by word: from the first zero on, the trit at place p has word p - c + 1. Assumes nothing.
 use Prim.Native.Nat.{ℕ, zero, suc, _+_, _-_, _≤_, _<_, zero-le, suc-le-suc}
-use native.Mathlib.Nat.{add-zero, le-refl}
+use native.Mathlib.Nat.{le-refl}
 use native.Mathlib.Numerals.{add-one}
 use native.Mathlib.Decide.{decLe}
 use native.Mathlib.Omega.{arith}
@@ -76,7 +76,10 @@ module _ {trits H : List ℕ} (P : ProperTrits trits H) where
       let l : i < length rows = omega (arith, length-map (oneTo n) row, length-run 1 n) in
       drop-cons rows i [] l ∙ ap (λ (r : List ℕ). r ∷ drop (suc i) rows) (getD-map-run row 1 n i [] h ∙ ap row (omega arith))
 
-  -- the words after the first, and those of nodes i + 1, i + 2, .. and the roots
+  abbrev ws : List ℕ
+  ws = words (unpack trits H)
+
+  -- the words of nodes i + 1, i + 2, .. and of the roots
   abbrev after : ℕ → List ℕ
   after i = listWords (drop i rows) ++ counted (oneTo c)
 
@@ -84,35 +87,27 @@ module _ {trits H : List ℕ} (P : ProperTrits trits H) where
   unfolding listWords
   after-cons i h = rw (rows-cons i h, append-assoc)
 
-  after-is : (i : ℕ) → i ≤ n → drop (z i - c) (after 0) ≡ after i
-  after-is zero h = let e : z 0 - c ≡ 0 = omega (arith, first-zero trits H P) in ap (λ (k : ℕ). drop k (after 0)) e
-  after-is (suc i) h =
-      let e : z (suc i) - c ≡ (z i - c) + suc (length (row (suc i))) = omega (arith, row-length i h, zeros-rise i h, zeros-from i (omega arith)) in
-      rw (e, ← drop-drop, after-is i (omega arith), after-cons i h)
-      (drop-at (row (suc i)) (after (suc i)) _ refl)
-
-  -- word k of those after zero number i
-  word-after : (i k : ℕ) → i ≤ n → getD (words (unpack trits H)) (wordAt trits (z i) + k) 0 ≡ getD (after i) k 0
+  after-is : (i : ℕ) → i ≤ n → drop (wordAt trits (z i)) ws ≡ after i
   unfolding words unpack
-  word-after i k h =
-      let e : wordAt trits (z i) + k ≡ suc (z i - c + k) = omega arith in
-      ap (λ (x : ℕ). getD (words (unpack trits H)) x 0) e ∙ sym (getD-drop (z i - c) (after 0) k 0) ∙ ap (λ (l : List ℕ). getD l k 0) (after-is i h)
+  after-is zero h = let e : wordAt trits (z 0) ≡ 1 = omega (arith, first-zero trits H P) in ap (λ (k : ℕ). drop k ws) e
+  after-is (suc i) h =
+      let e : wordAt trits (z (suc i)) ≡ wordAt trits (z i) + suc (length (row (suc i))) = omega (arith, row-length i h, zeros-rise i h, zeros-from i (omega arith)) in
+      rw (e, ← drop-drop, after-is i (omega arith), after-cons i h) (drop-at (row (suc i)) (after (suc i)) _ refl)
+
+  -- word k of those from zero number i on
+  word-after : (i k w : ℕ) → i ≤ n → w ≡ wordAt trits (z i) + k → getD ws w 0 ≡ getD (after i) k 0
+  word-after i k w h e = ap (λ (x : ℕ). getD ws x 0) e ∙ sym (getD-drop (wordAt trits (z i)) ws k 0) ∙ ap (λ (l : List ℕ). getD l k 0) (after-is i h)
 
   -- between zero number i and the next: its word is their count, and theirs are the operands
-  count-word : (i : ℕ) → i < n → getD (words (unpack trits H)) (wordAt trits (z i)) 0 ≡ z (suc i) - z i - 1
-  count-word i h =
-      ap (λ (k : ℕ). getD (words (unpack trits H)) k 0) (sym (add-zero (wordAt trits (z i)))) ∙ word-after i 0 (omega arith)
-      ∙ ap (λ (l : List ℕ). getD l 0 0) (after-cons i h) ∙ omega (arith, row-length i h)
+  count-word : (i : ℕ) → i < n → getD ws (wordAt trits (z i)) 0 ≡ z (suc i) - z i - 1
+  count-word i h = word-after i 0 (wordAt trits (z i)) (omega arith) (omega arith) ∙ ap (λ (l : List ℕ). getD l 0 0) (after-cons i h) ∙ omega (arith, row-length i h)
 
-  operand-word : (i p : ℕ) → i < n → z i < p → p < z (suc i) → getD (words (unpack trits H)) (wordAt trits p) 0 ≡ operandAt trits H p
+  operand-word : (i p : ℕ) → i < n → z i < p → p < z (suc i) → getD ws (wordAt trits p) 0 ≡ operandAt trits H p
   operand-word i p h a b =
       let k : ℕ = p - suc (z i) in
-      let e : wordAt trits p ≡ wordAt trits (z i) + suc k = omega (arith, zeros-from i (omega arith)) in
-      let q : suc (z i) + k ≡ p = omega arith in
-      let l : k < length (row (suc i)) = omega (arith, row-length i h) in
-      ap (λ (x : ℕ). getD (words (unpack trits H)) x 0) e ∙ word-after i (suc k) (omega arith) ∙ ap (λ (w : List ℕ). getD w (suc k) 0) (after-cons i h)
-      ∙ List·getD-append (row (suc i)) (after (suc i)) 0 k l ∙ ap (λ (w : List ℕ). getD w k 0) (row-is i h)
-      ∙ getD-map-run (operandAt trits H) (suc (z i)) (z (suc i) - suc (z i)) k 0 (omega arith) ∙ ap (operandAt trits H) q
+      word-after i (suc k) (wordAt trits p) (omega arith) (omega (arith, zeros-from i (omega arith))) ∙ ap (λ (w : List ℕ). getD w (suc k) 0) (after-cons i h)
+      ∙ List·getD-append (row (suc i)) (after (suc i)) 0 k (omega (arith, row-length i h)) ∙ ap (λ (w : List ℕ). getD w k 0) (row-is i h)
+      ∙ getD-map-run (operandAt trits H) (suc (z i)) (z (suc i) - suc (z i)) k 0 (omega arith) ∙ ap (operandAt trits H) (omega arith)
 
   -- a zero is the one after those before it
   zero-is : (p : ℕ) → p < length trits → getD trits p 0 ≡ 0 → z (rank 0 trits p) ≡ p
@@ -137,8 +132,7 @@ module _ {trits H : List ℕ} (P : ProperTrits trits H) where
     j = rank 0 trits p - 1
 
     some : rank 0 trits p ≡ suc j
-    some =
-        omega (arith, rank-here 0 trits c (first-at .inside) (first-at .holds), rank-mono 0 trits (suc c) p a)
+    some = omega (arith, rank-here 0 trits c (first-at .inside) (first-at .holds), rank-mono 0 trits (suc c) p a)
 
     few : j ≤ n
     few = omega (arith, some, rank-count 0 trits p, zeros-ones trits (P .is-balanced))
@@ -153,16 +147,16 @@ module _ {trits H : List ℕ} (P : ProperTrits trits H) where
     pub last-past : lastZero trits p < p
     last-past = omega (arith, last-is, lt-of-rank 0 trits (z j) p (omega (arith, some, zero-at j few .ranked)))
 
-    pub zero-word : getD trits p 0 ≡ 0 → getD (words (unpack trits H)) (wordAt trits (lastZero trits p)) 0 ≡ p - lastZero trits p - 1
+    pub zero-word : getD trits p 0 ≡ 0 → getD ws (wordAt trits (lastZero trits p)) 0 ≡ p - lastZero trits p - 1
     zero-word e =
         let h : j < n = omega (arith, some, rank-here 0 trits p l e, rank-count 0 trits (suc p), zeros-ones trits (P .is-balanced)) in
         let f : z (suc j) ≡ p = ap z (sym some) ∙ zero-is p l e in
-        ap (λ (x : ℕ). getD (words (unpack trits H)) (wordAt trits x) 0) last-is ∙ count-word j h ∙ omega (arith, last-is)
+        ap (λ (x : ℕ). getD ws (wordAt trits x) 0) last-is ∙ count-word j h ∙ omega (arith, last-is)
 
-    pub other-word : (getD trits p 0 ≡ 0 → ⊥) → getD (words (unpack trits H)) (wordAt trits p) 0 ≡ operandAt trits H p
+    pub other-word : (getD trits p 0 ≡ 0 → ⊥) → getD ws (wordAt trits p) 0 ≡ operandAt trits H p
     other-word e = go (decLe (suc j) n)
       where
-        go : Dec (suc j ≤ n) → getD (words (unpack trits H)) (wordAt trits p) 0 ≡ operandAt trits H p
+        go : Dec (suc j ≤ n) → getD ws (wordAt trits p) 0 ≡ operandAt trits H p
         go (no m) = let f : j ≡ n = omega (arith, few) in absurd (omega (arith, last-past, last-is, ap z f, final-zero trits H P))
         go (yes h) =
             let s = zero-at (suc j) h in
@@ -202,14 +196,11 @@ module _ {trits H : List ℕ} (P : ProperTrits trits H) where
   unfolding listWords
   after-last = rw (drop-of-length-le rows {i = n} (omega (arith, length-map (oneTo n) row, length-run 1 n)))
 
-  pub roots-word : getD (words (unpack trits H)) (wordAt trits (length trits - 1)) 0 ≡ c
+  pub roots-word : getD ws (wordAt trits (length trits - 1)) 0 ≡ c
   roots-word =
-      ap (λ (x : ℕ). getD (words (unpack trits H)) x 0) (ap (wordAt trits) (sym (final-zero trits H P)) ∙ sym (add-zero (wordAt trits (z n))))
-      ∙ word-after n 0 (le-refl n) ∙ ap (λ (l : List ℕ). getD l 0 0) after-last ∙ length-run 1 c
+      word-after n 0 (wordAt trits (length trits - 1)) (le-refl n) (omega (arith, final-zero trits H P)) ∙ ap (λ (l : List ℕ). getD l 0 0) after-last ∙ length-run 1 c
 
-  pub roots-rest : (w : ℕ) → w ≡ wordAt trits (length trits - 1) + 1 → drop w (words (unpack trits H)) ≡ oneTo c
-  unfolding words unpack
+  pub roots-rest : (w : ℕ) → w ≡ wordAt trits (length trits - 1) + 1 → drop w ws ≡ oneTo c
   roots-rest w e =
-      let f : w ≡ suc (z n - c + 1) = e ∙ omega (arith, final-zero trits H P) in
-      ap (λ (x : ℕ). drop x (words (unpack trits H))) f ∙ sym (drop-drop 1 (z n - c) (after 0))
-      ∙ ap (drop 1) (after-is n (le-refl n) ∙ after-last)
+      let f : w ≡ wordAt trits (z n) + 1 = omega (arith, final-zero trits H P) in
+      ap (λ (x : ℕ). drop x ws) f ∙ sym (drop-drop 1 (wordAt trits (z n)) ws) ∙ ap (drop 1) (after-is n (le-refl n) ∙ after-last)

@@ -1,8 +1,7 @@
 -- `unpacking::put_rows` meets its contract: n first, then a word for each trit past the first zero, and last the count of the roots. Assumes nothing.
-use Prim.Native.Nat.{_-_, _<_}
+use Prim.Native.Nat.{_-_}
 use native.Mathlib.Omega.{arith}
-use mathlib.Core.Path.{_≡_, ap, _∙_}
-use lib.ListN.{length, length-set}
+use mathlib.Core.Path.{_∙_}
 use Rattle.unpacking.proofs.FillLaws.{filled-length}
 use Rattle.unpacking.proofs.SizeLaws.{sizes}
 use Rattle.unpacking.proofs.RowLaws.{Rows, rows-first, rows-next, rows-last}
@@ -15,39 +14,18 @@ Inv-loop image lay table₀ end nodes roots s₀ p₀ table s p = Rows image lay
 abbrev μ-loop : tie.MeasureT-loop
 μ-loop image lay table₀ end nodes roots s₀ p₀ table s p = end - p
 
-put-word-requires : tie.Need-put-word-requires Inv-loop μ-loop
-put-word-requires c κs = omega (arith, sizes (c .before .before .before .pre .0))
-
-add-p : tie.Need-add-p Inv-loop μ-loop
-add-p c = omega (arith, sizes (c .before .before .before .before .before .before .pre .0))
-
 loop-holds : tie.Need-loop-holds Inv-loop μ-loop
 loop-holds c =
     let w = c .before .before in
     let o = w .before .before .before .before in
     rows-first (o .pre .0) (o .args .table .now) _ (o .pre .1) (w .put-word .ensures)
 
--- the table keeps its length
-kept : (c : tie.At-loop Inv-loop μ-loop) → length (c .loop .table) ≡ length (c .before .before .before .before .before .before .before .args .table .now)
-kept c =
-    let w = c .before .before .before in
-    filled-length (c .loop .inv .filled) ∙ ap length (w .put-word .ensures) ∙ length-set (w .before .before .before .before .args .table .now) 0 (w .before .before .before .before .args .lay .nodes)
-
-room : (c : tie.At-loop Inv-loop μ-loop) → let o = c .before .before .before .before .before .before .before in o .args .lay .trits < length (c .loop .table)
-room c = let o = c .before .before .before .before .before .before .before in omega (arith, kept c, o .pre .1)
-
 put-trit-requires : tie.Need-put-trit-requires Inv-loop μ-loop
 put-trit-requires c κs =
     let t = c .before in
     let r = t .before .loop .inv in
     let x = t .before .before .before .before .before .before .before .before .pre in
-    (record { laid = x .0; is = r .stands; from = r .from; inside = t .loop-test .taken }, room (t .before))
-
-add-p-2 : tie.Need-add-p-2 Inv-loop μ-loop
-add-p-2 c = omega arith
-
-loop-less : tie.Need-loop-less Inv-loop μ-loop
-loop-less c = omega arith
+    (record { laid = x .0; is = r .stands; from = r .from; inside = t .loop-test .taken }, omega (arith, filled-length (r .filled)))
 
 loop-again : tie.Need-loop-again Inv-loop μ-loop
 loop-again c =
@@ -56,14 +34,10 @@ loop-again c =
     let x = t .before .before .before .before .before .before .before .before .pre in
     rows-next (x .0) (t .before .loop .inv) (t .loop-test .taken) _ (w .put-trit .ensures .0) _ (w .put-trit .ensures .1)
 
-sub-last : tie.Need-sub-last Inv-loop μ-loop
-sub-last c = let x = c .before .before .before .before .before .before .before .before .pre in omega (arith, sizes (x .0))
-
 put-word-requires-2 : tie.Need-put-word-requires-2 Inv-loop μ-loop
-put-word-requires-2 c κs = let x = c .before .before .before .before .before .before .before .before .before .pre in omega (arith, sizes (x .0), room (c .before .before))
-
-same-length : tie.Need-same-length Inv-loop μ-loop
-same-length c = let w = c .before .before in ap length (w .put-word2 .ensures) ∙ simp length-set (kept (w .before .before .before))
+put-word-requires-2 c κs =
+    let t = c .before in
+    omega (arith, sizes (t .before .before .before .before .before .before .before .before .pre .0), filled-length (t .before .loop .inv .filled))
 
 returns : tie.Need-returns Inv-loop μ-loop
 returns c =
@@ -79,14 +53,14 @@ put-rows-spec =
     (tie.spec
     Inv-loop
     μ-loop
-    put-word-requires
-    add-p
+    (λ c κs. omega (arith, sizes (c .before .before .before .pre .0)))
+    (λ c. omega (arith, sizes (c .before .before .before .before .before .before .pre .0)))
     loop-holds
     put-trit-requires
-    add-p-2
-    loop-less
+    (λ c. omega arith)
+    (λ c. omega arith)
     loop-again
-    sub-last
+    (λ c. omega (arith, sizes (c .before .before .before .before .before .before .before .before .pre .0)))
     put-word-requires-2
-    same-length
+    (λ c. omega (arith, filled-length (c .before .before .before .before .before .loop .inv .filled)))
     returns)
