@@ -20,13 +20,9 @@ pub record Filled (ws old table : List ℕ) (late w : ℕ) : Type 0 where
   pub are : set table late (getD ws late 0) ≡ overFirst w ws old
 
 over-set : (ws old : List ℕ) (w : ℕ) → w < length ws → length ws ≤ length old → set (overFirst w ws old) w (getD ws w 0) ≡ overFirst (w + 1) ws old
-over-set ws old w h r =
-    rw add-one (simp zero-add at (paste-suc old 0 ws w 0 (omega arith) h))
+over-set ws old w h r = rw add-one (simp zero-add at (paste-suc old 0 ws w 0 (omega arith) h))
 
-length-first : (ws old : List ℕ) (w : ℕ) → w ≤ length ws → length ws ≤ length old → length (overFirst w ws old) ≡ length old
-length-first ws old w h r = omega (arith, length-append (take w ws) (drop w old), length-take-le w ws h, length-drop w old)
-
--- the first word put, the second left late
+-- the first word put, the second still to come
 pub filled-first : (ws old table : List ℕ) → 1 < length ws → length ws ≤ length old → table ≡ set old 0 (getD ws 0 0) → Filled ws old table 1 2
 filled-first ws old table h r e = record {
   room = r;
@@ -37,7 +33,8 @@ filled-first ws old table h r e = record {
 
 module _ {ws old table : List ℕ} {late w : ℕ} (F : Filled ws old table late w) where
   pub filled-length : length table ≡ length old
-  filled-length = sym (length-set table late (getD ws late 0)) ∙ ap length (F .are) ∙ length-first ws old w (F .upto) (F .room)
+  filled-length =
+      omega (arith, F, length-set table late (getD ws late 0), ap length (F .are), length-append (take w ws) (drop w old), length-take-le w ws (F .upto), length-drop w old)
 
   -- the next word
   pub filled-next : w < length ws → (x : ℕ) → x ≡ getD ws w 0 → Filled ws old (set table w x) late (w + 1)
@@ -48,7 +45,7 @@ module _ {ws old table : List ℕ} {late w : ℕ} (F : Filled ws old table late 
     are = rw (e, set-comm table w late (getD ws w 0) (getD ws late 0) (λ q. omega (arith, F .low)), F .are) (over-set ws old w h (F .room));
   }
 
-  -- the late word; the next is left late
+  -- the late word; the next is still to come
   pub filled-late : w < length ws → (x : ℕ) → x ≡ getD ws late 0 → Filled ws old (set table late x) w (w + 1)
   filled-late h x e = record {
     room = F .room;

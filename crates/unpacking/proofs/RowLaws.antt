@@ -9,7 +9,7 @@ use lib.Seq.{set-set, drop-set-lt}
 use Rattle.format.specs.Lists.{oneTo, over}
 use Rattle.format.specs.Image.{rootCount}
 use Rattle.format.specs.Table.{words}
-use Rattle.format.specs.Proper.{tritsOf, shadowsOf}
+use Rattle.format.specs.Proper.{tritsOf, shadowsOf, ProperTrits}
 use Rattle.format.proofs.Laws.{length-run}
 use Rattle.format.proofs.Neighbours.{unpack-nodes}
 use Rattle.format.proofs.OnImage.{proper}
@@ -39,16 +39,19 @@ module _ {b : List ℕ} {lay : Layout} (L : Laid b lay) where
   abbrev ws : List ℕ
   ws = tableOf b
 
+  P : ProperTrits trits H
+  P = proper (L .whole)
+
   first-word : getD ws 0 0 ≡ lay .nodes
   unfolding words
-  first-word = unpack-nodes trits H (proper (L .whole)) ∙ sym (sizes L .nodes-are)
+  first-word = unpack-nodes trits H P ∙ sym (sizes L .nodes-are)
 
   -- n is put; `old` has it already
   pub rows-first : (entry old : List ℕ) → lay .trits < length entry → old ≡ set entry 0 (lay .nodes)
       → Rows b lay old old (lay .roots + 1) (record { ones = lay .roots; twos = 0; zero = lay .roots })
   rows-first entry old h e =
       let S = sizes L in
-      let q : standAt trits (lay .roots + 1) ≡ record { ones = lay .roots; twos = 0; zero = lay .roots } = rw (S .roots-are) (sym (stand-first (proper (L .whole)))) in
+      let q : standAt trits (lay .roots + 1) ≡ record { ones = lay .roots; twos = 0; zero = lay .roots } = rw (S .roots-are) (sym (stand-first P)) in
       let z : lastZero trits (lay .roots + 1) ≡ lay .roots = λ i. q i .zero in
       let late : wordAt trits (lastZero trits (lay .roots + 1)) ≡ 1 = omega (arith, S, z) in
       let w : wordAt trits (lay .roots + 1) ≡ 2 = omega (arith, S) in
@@ -63,27 +66,16 @@ module _ {b : List ℕ} {lay : Layout} (L : Laid b lay) where
   module _ {old table : List ℕ} {p : ℕ} {s : Stand} (R : Rows b lay old table p s) where
     -- one more trit
     pub rows-next : p < lay .trits → (next : Stand) → next ≡ standAt trits (p + 1) → (put : List ℕ) → put ≡ tritPut trits H p table → Rows b lay old put (p + 1) next
-    rows-next h next e put f = record { stands = e; from = omega (arith, R .from); upto = omega arith; filled = rw (f, step) (go (ℕ-discrete (getD trits p 0) 0)) }
+    rows-next h next e put f =
+        let S = sizes L in
+        let a : rootCount trits < p = omega (arith, S, R .from) in
+        let step : wordAt trits (p + 1) ≡ wordAt trits p + 1 = omega arith in
+        record { stands = e; from = omega (arith, R .from); upto = omega arith; filled = rw (f, step) (go a (omega (arith, S)) (omega (arith, S)) (ℕ-discrete (getD trits p 0) 0)) }
       where
-        a : rootCount trits < p
-        a = omega (arith, sizes L, R .from)
-
-        l : p < length trits
-        l = omega (arith, sizes L)
-
-        room : wordAt trits p < length ws
-        room = omega (arith, sizes L, a)
-
-        step : wordAt trits (p + 1) ≡ wordAt trits p + 1
-        step = omega (arith, a)
-
-        go : Dec (getD trits p 0 ≡ 0) → Filled ws old (tritPut trits H p table) (wordAt trits (lastZero trits (p + 1))) (wordAt trits p + 1)
-        go (yes z) =
-            rw (put-zero trits H p table z, last-hit (proper (L .whole)) p l z)
-            (filled-late (R .filled) room _ (sym (zero-word (proper (L .whole)) p a l z)))
-        go (no z) =
-            rw (put-other trits H p table z, last-miss (proper (L .whole)) p l z)
-            (filled-next (R .filled) room _ (sym (other-word (proper (L .whole)) p a l z)))
+        go : rootCount trits < p → p < length trits → wordAt trits p < length ws → Dec (getD trits p 0 ≡ 0)
+            → Filled ws old (tritPut trits H p table) (wordAt trits (lastZero trits (p + 1))) (wordAt trits p + 1)
+        go a l w (yes z) = rw (put-zero trits H p table z, last-hit P p l z) (filled-late (R .filled) w _ (sym (zero-word P p a l z)))
+        go a l w (no z) = rw (put-other trits H p table z, last-miss P p l z) (filled-next (R .filled) w _ (sym (other-word P p a l z)))
 
     -- the last: the count of the roots
     pub rows-last : (entry : List ℕ) (x : ℕ) → old ≡ set entry 0 x → lay .trits ≤ p
@@ -91,11 +83,11 @@ module _ {b : List ℕ} {lay : Layout} (L : Laid b lay) where
     rows-last entry x o h =
         let S = sizes L in
         let e : p ≡ length trits = omega (arith, S, R .upto) in
-        let z : lastZero trits p ≡ length trits - 1 = ap (lastZero trits) e ∙ last-end (proper (L .whole)) in
+        let z : lastZero trits p ≡ length trits - 1 = ap (lastZero trits) e ∙ last-end P in
         let k : wordAt trits (lastZero trits p) ≡ lay .trits - lay .roots = omega (arith, S, z) in
         let w : wordAt trits p ≡ lay .trits - lay .roots + 1 = omega (arith, S) in
         let v : getD ws (wordAt trits (lastZero trits p)) 0 ≡ lay .roots =
-        ap (λ (x : ℕ). getD ws (wordAt trits x) 0) z ∙ roots-word (proper (L .whole)) ∙ sym (S .roots-are) in
+        ap (λ (x : ℕ). getD ws (wordAt trits x) 0) z ∙ roots-word P ∙ sym (S .roots-are) in
         ap₂ (set table) (sym k) (sym v) ∙ R .filled .are ∙ ap (λ (x : ℕ). overFirst x ws old) w
         ∙ ap (λ (l : List ℕ). take (lay .trits - lay .roots + 1) ws ++ l) (rw o (drop-set-lt (lay .trits - lay .roots + 1) entry 0 x (omega arith)))
 
@@ -105,4 +97,4 @@ module _ {b : List ℕ} {lay : Layout} (L : Laid b lay) where
   roots-last old h =
       let S = sizes L in
       over-end ws old (oneTo (lay .roots)) (lay .trits - lay .roots + 1) (omega (arith, S, length-run 1 (lay .roots))) (omega (arith, S))
-      (roots-rest (proper (L .whole)) (lay .trits - lay .roots + 1) (omega (arith, S)) ∙ ap oneTo (sym (S .roots-are)))
+      (roots-rest P (lay .trits - lay .roots + 1) (omega (arith, S)) ∙ ap oneTo (sym (S .roots-are)))

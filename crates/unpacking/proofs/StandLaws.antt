@@ -1,7 +1,7 @@
 -- One trit of an accepted image: its numbers fit, what it puts, and where the unpacker stands after it. Assumes nothing.
 use Prim.Native.Nat.{ℕ, suc, _+_, _-_, _*_, _≤_, _<_}
 use native.Mathlib.Omega.{arith}
-use mathlib.Core.Path.{_≡_, sym, _∙_}
+use mathlib.Core.Path.{_≡_, sym}
 use mathlib.Core.List.{List}
 use lib.Dec.{lit<}
 use lib.ListN.{length, getD, set}
@@ -18,11 +18,6 @@ use Rattle.unpacking.specs.declared.Stand.{Stand}
 use Rattle.unpacking.specs.Standing.{Standing, lastZero, standAt, wordAt, tritPut}
 use Rattle.unpacking.proofs.SizeLaws.{Sizes, sizes, table-fits}
 use Rattle.unpacking.proofs.WordLaws.{last-hit, last-miss, last-from, last-past, zero-word, put-zero, put-other}
-
--- the last zero before p, past the first
-pub record Last (lay : Layout) (p zero : ℕ) : Type 0 where
-  pub from : lay .roots ≤ zero
-  pub past : zero < p
 
 -- the trit at p, past the first zero, in the code's words
 module _ {b : List ℕ} {lay : Layout} {p : ℕ} {s : Stand} (T : Standing b lay p s) where
@@ -44,8 +39,8 @@ module _ {b : List ℕ} {lay : Layout} {p : ℕ} {s : Stand} (T : Standing b lay
   l : p < length trits
   l = omega (arith, S, T .from, T .inside)
 
-  pub last : Last lay p (s .zero)
-  last = rw (T .is) (record { from = omega (arith, S, last-from P p a l); past = last-past P p a l })
+  pub last : (lay .roots ≤ s .zero) × (s .zero < p)
+  last = rw (T .is) (omega (arith, S, last-from P p a l, last-past P p a l))
 
   pub two-left : (getD trits p 0 ≡ 0 → ⊥) → (getD trits p 0 ≡ 1 → ⊥) → getD trits p 0 ≡ 2
   two-left e f = omega (arith, P .threes p l)
@@ -89,23 +84,14 @@ module _ {b : List ℕ} {lay : Layout} {p : ℕ} {s : Stand} (T : Standing b lay
       (rw (T .is, T .laid .is, e) (number-reads (sectioned (T .laid .whole)) 0 (lit< tt) (rank 2 trits p) (twos-few e)))
 
   -- where the unpacker stands after it
+  stand-next : {o t z : ℕ} → o ≡ rank 1 trits (p + 1) → t ≡ rank 2 trits (p + 1) → z ≡ lastZero trits (p + 1) → record { ones = o; twos = t; zero = z } ≡ standAt trits (p + 1)
+  stand-next o t z = λ i. record { ones = o i; twos = t i; zero = z i }
+
   pub stand-zero : getD trits p 0 ≡ 0 → record { ones = s .ones; twos = s .twos; zero = p } ≡ standAt trits (p + 1)
-  stand-zero e = λ i. record {
-    ones = ((λ k. T .is k .ones) ∙ sym (rank-miss 1 trits p l (λ q. omega arith))) i;
-    twos = ((λ k. T .is k .twos) ∙ sym (rank-miss 2 trits p l (λ q. omega arith))) i;
-    zero = sym (last-hit P p l e) i;
-  }
+  stand-zero e = rw (T .is) (stand-next (sym (rank-miss 1 trits p l (λ q. omega arith))) (sym (rank-miss 2 trits p l (λ q. omega arith))) (sym (last-hit P p l e)))
 
   pub stand-one : getD trits p 0 ≡ 1 → record { ones = s .ones + 1; twos = s .twos; zero = s .zero } ≡ standAt trits (p + 1)
-  stand-one e = λ i. record {
-    ones = ((λ k. T .is k .ones + 1) ∙ sym (rank-hit 1 trits p l e)) i;
-    twos = ((λ k. T .is k .twos) ∙ sym (rank-miss 2 trits p l (λ q. omega arith))) i;
-    zero = ((λ k. T .is k .zero) ∙ sym (last-miss P p l (λ q. omega arith))) i;
-  }
+  stand-one e = rw (T .is) (stand-next (sym (rank-hit 1 trits p l e)) (sym (rank-miss 2 trits p l (λ q. omega arith))) (sym (last-miss P p l (λ q. omega arith))))
 
   pub stand-two : getD trits p 0 ≡ 2 → record { ones = s .ones; twos = s .twos + 1; zero = s .zero } ≡ standAt trits (p + 1)
-  stand-two e = λ i. record {
-    ones = ((λ k. T .is k .ones) ∙ sym (rank-miss 1 trits p l (λ q. omega arith))) i;
-    twos = ((λ k. T .is k .twos + 1) ∙ sym (rank-hit 2 trits p l e)) i;
-    zero = ((λ k. T .is k .zero) ∙ sym (last-miss P p l (λ q. omega arith))) i;
-  }
+  stand-two e = rw (T .is) (stand-next (sym (rank-miss 1 trits p l (λ q. omega arith))) (sym (rank-hit 2 trits p l e)) (sym (last-miss P p l (λ q. omega arith))))
