@@ -11,3 +11,4 @@ pub mod PairLaws
 pub mod TwoLaws
 pub mod KeyLaws
 pub mod PassedLaws
+pub mod OneAnswer

@@ -5,7 +5,7 @@ use mathlib.Core.Path.{_≡_, refl, sym, _∙_}
 use borrow.Author.Needs.{needs}
 use borrow.Author.Tests.{eq-eqb, ne-eqb}
 use lib.Dec.{eqb}
-use lib.ListN.{length, drop}
+use lib.ListN.{length, getD, drop}
 use Rattle.format.specs.Lists.{every, spread}
 use Rattle.format.specs.Proper.{padded}
 use Rattle.format.proofs.Digits.{length-spread}
@@ -28,7 +28,7 @@ returns c =
     let on = c .before in
     let at = on .before .before in
     let ts = spread 3 5 (at .before .before .args .bs .now) in
-    sym (at .loop .inv .2 ∙ every-stop (eqb 0) ts (at .loop .p) (omega arith) (ne-eqb 0 _ (λ e. c .if1 .taken (on .trit .ensures .0 ∙ sym e))))
+    sym (at .loop .inv .2 ∙ every-stop (eqb 0) ts (at .loop .p) (omega arith) (ne-eqb 0 (getD ts (at .loop .p) 0) (λ e. omega (arith, c .if1 .taken, on .trit .ensures .0, e))))
 
 loop-again : tie.Need-loop-again Inv-loop μ-loop
 loop-again c =
@@ -36,7 +36,7 @@ loop-again c =
     let at = on .before .before in
     let ts = spread 3 5 (at .before .before .args .bs .now) in
     let t = on .trit .ensures .0 in
-    (omega arith, at .loop .inv .1, at .loop .inv .2 ∙ every-more (eqb 0) ts (at .loop .p) (omega arith) (eq-eqb 0 _ (sym (c .if1 .left) ∙ t)))
+    (omega arith, at .loop .inv .1, at .loop .inv .2 ∙ every-more (eqb 0) ts (at .loop .p) (omega arith) (eq-eqb 0 (getD ts (at .loop .p) 0) (omega (arith, c .if1 .left, t))))
 
 returns-2 : tie.Need-returns-2 Inv-loop μ-loop
 returns-2 c =
