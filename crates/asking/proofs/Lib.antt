@@ -1,0 +1,4 @@
+-- The laws of this crate's functions, by subject.
+pub mod EntryLaws
+pub mod MarkedLaws
+pub mod KindLaws

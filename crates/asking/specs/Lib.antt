@@ -1,0 +1,2 @@
+-- What the functions of this crate answer each other, over the definitions of `format`.
+pub mod Bounds

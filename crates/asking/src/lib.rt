@@ -1,0 +1,2 @@
+// One question about a checked image.
+pub mod index;
