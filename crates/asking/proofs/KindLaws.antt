@@ -4,22 +4,22 @@ use native.Mathlib.Omega.{arith}
 use native.Mathlib.Decide.{decLe}
 use native.Mathlib.Numerals.{add-one}
 use mathlib.Core.Path.{_≡_, refl, sym, ap, _∙_, subst}
-use mathlib.Core.Option.{Option, none, some}
+use mathlib.Core.Option.{Option, none, some, Option·none-ne-some}
 use mathlib.Core.List.{List}
 use lib.Dec.{eqb, ltb}
 use lib.ListN.{length, getD}
-use borrow.Author.Tests.{lt-ltb, le-ltb}
+use borrow.Author.Tests.{le-leb, lt-ltb, le-ltb}
 use Rattle.format.specs.Lists.{bit, countIn, numbered}
-use Rattle.format.specs.Trits.{rank, places, Selected}
+use Rattle.format.specs.Trits.{rank, places, select, Selected}
 use Rattle.format.specs.Image.{nodeCount, rootCount, shadowAt, group, grouped}
 use Rattle.format.specs.Proper.{tritsOf, shadowsOf, ProperTrits}
 use Rattle.format.specs.Edges.{Edge, operandAt, edgeAt, operandEdges, useEdges}
-use Rattle.format.specs.Question.{Reply, refused, plain, says, operandOr33, userOr33, answer, operandCount, operandAnswer, useCount, useAnswer}
+use Rattle.format.specs.Question.{Reply, refused, plain, says, operandOr33, userOr33, answer, selectAnswer, operandCount, operandAnswer, useCount, useAnswer}
 use Rattle.format.proofs.Laws.{rank-mono, rank-here, rank-count, rank-three, count-le}
-use Rattle.format.proofs.Select.{place-of, place-rank, length-places}
-use Rattle.format.proofs.Sizes.{grouped-suc}
+use Rattle.format.proofs.Select.{select-found, place-of, place-rank, length-places}
+use Rattle.format.proofs.Sizes.{grouped-suc, length-grouped}
 use Rattle.format.proofs.ImageReads.{Each, each-append, each-kept}
-use Rattle.format.proofs.CheckLaws.{limits-nodes}
+use Rattle.format.proofs.CheckLaws.{limits-nodes, shadow-nodes}
 use Rattle.format.proofs.ProperLaws.{nth, nth-selected, zeros-ones, length-trits, operand-count, use-count}
 use Rattle.format.proofs.Lookups.{operand-at, operand-none, use-real, use-shadow, use-none}
 use Rattle.format.proofs.Outcomes.{kind-3, kind-4, kind-5, kind-6}
@@ -47,7 +47,22 @@ module _ {b : List ℕ} {lay : Layout} (L : Laid b lay) where
   unfolding layoutOf
   roots-is = rw (L .is)
 
+-- ---- kind 2
+
+pub select-nothing : (a : ℕ) (trits : List ℕ) (b : ℕ) → a ≤ 2 → none ≡ select a trits b → refused 33 ≡ selectAnswer trits a b
+unfolding selectAnswer
+select-nothing a trits b h e = rw (le-leb a 2 h, ← e)
+
+pub select-value : (a : ℕ) (trits : List ℕ) (b : ℕ) {p : ℕ} → a ≤ 2 → some p ≡ select a trits b → plain p ≡ selectAnswer trits a b
+unfolding selectAnswer
+select-value a trits b h e = rw (le-leb a 2 h, ← e)
+
 -- ---- places
+
+-- a number up to the count has its place
+pub never-nothing : (t : ℕ) (xs : List ℕ) (j : ℕ) → 0 < j → j ≤ countIn t xs → none ≡ select t xs j → ⊥
+never-nothing t xs zero h l e = absurd (omega arith)
+never-nothing t xs (suc j) h l e = Option·none-ne-some _ (e ∙ select-found t xs j l)
 
 pub selected-nth : {t : ℕ} {xs : List ℕ} {j p : ℕ} → Selected t xs j p → p ≡ nth t xs j
 unfolding nth
@@ -63,8 +78,11 @@ selected-apart {t} {xs} {j} {z} {n} Z N = go (decLe n z)
     go (no l) = omega arith
 
 module _ {trits H : List ℕ} (p : ProperTrits trits H) where
+  pub nodes-few : nodeCount trits ≤ 30000
+  nodes-few = limits-nodes trits (p .in-limits)
+
   -- each entry of section 5 is the place of a 2
-  abbrev Two : ℕ → Type 0
+  abbrev pub Two : ℕ → Type 0
   Two q = (q < length trits) × (getD trits q 0 ≡ 2)
 
   pub grouped-twos : (j : ℕ) → Each Two (grouped trits H j)
@@ -75,6 +93,14 @@ module _ {trits H : List ℕ} (p : ProperTrits trits H) where
       (each-append Two (grouped trits H j) (group trits H (suc j)) (grouped-twos j)
       (each-kept Two (λ q. eqb (shadowAt trits H q) (suc j)) (places 2 trits)
       (λ i l. let s = place-of 2 trits i (omega (arith, length-places 2 trits)) in (s .inside, s .holds))))
+
+  pub place-two : {j q : ℕ} → j < length H → q ≡ getD (grouped trits H (nodeCount trits)) j 0 → Two q
+  place-two {j} l e =
+      rw e
+      (grouped-twos (nodeCount trits) j (omega (arith, length-grouped trits H (p .paired) (shadow-nodes trits H (p .paired) (p .seen)))))
+
+  pub shadows-few : length H < 125536
+  shadows-few = omega (arith, length-trits trits H p, p .length-high)
 
   -- ---- edges at a place
 
@@ -93,10 +119,10 @@ module _ {trits H : List ℕ} (p : ProperTrits trits H) where
 
   pub ones-few : (q : ℕ) → rank 1 trits q ≤ 30000
   unfolding nodeCount
-  ones-few q = omega (arith, rank-count 1 trits q, limits-nodes trits (p .in-limits))
+  ones-few q = omega (arith, rank-count 1 trits q, nodes-few)
 
   pub zeros-few : (q : ℕ) → rank 0 trits q ≤ 30001
-  zeros-few q = omega (arith, rank-count 0 trits q, zeros-ones trits (p .is-balanced), limits-nodes trits (p .in-limits))
+  zeros-few q = omega (arith, rank-count 0 trits q, zeros-ones trits (p .is-balanced), nodes-few)
 
   -- the twos are what zeros and ones leave, and each has its entry of H
   pub record Twos (q z o : ℕ) : Type 0 where
@@ -118,6 +144,10 @@ module _ {trits H : List ℕ} (p : ProperTrits trits H) where
   module _ (a : ℕ) (low : 1 ≤ a) (high : a ≤ nodeCount trits) where
     pub zero-there : a + 1 ≤ countIn 0 trits
     zero-there = omega (arith, zeros-ones trits (p .is-balanced))
+
+    pub one-there : a ≤ countIn 1 trits
+    unfolding nodeCount
+    one-there = high
 
     -- kind 3
     pub operands-value : {b z n : ℕ} → b ≡ 0 → Selected 0 trits a z → Selected 0 trits (a + 1) n → plain (n - z - 1) ≡ operandCount trits H a b
@@ -200,11 +230,11 @@ module _ {trits H : List ℕ} (p : ProperTrits trits H) where
     pub use-past : {j : ℕ} → countIn a H ≤ j → refused 33 ≡ userOr33 (shadowUse j)
     use-past {j} l = ap userOr33 (sym (use-none trits H p a (suc (bit (ltb (rootCount trits) a) + j)) low high (omega arith)))
 
-    pub use-there : {j f : ℕ} → f ≡ length (grouped trits H (a - 1)) → j < countIn a H
-        → shadowUse j ≡ some (edgeAt trits H (getD (grouped trits H (nodeCount trits)) (f + j) 0))
-    use-there {j} {f} ef l =
+    pub use-there : {j f q : ℕ} → f ≡ length (grouped trits H (a - 1)) → q ≡ getD (grouped trits H (nodeCount trits)) (f + j) 0 → j < countIn a H
+        → shadowUse j ≡ some (edgeAt trits H q)
+    use-there {j} ef eq l =
         let e : suc (a - 1) ≡ a = omega arith in
-        rw e at (use-shadow trits H p (a - 1) j (omega arith) (rw e l)) ∙ ap {B = Option Edge} (λ k. some (edgeAt trits H (getD (grouped trits H (nodeCount trits)) (k + j) 0))) (sym ef)
+        rw (eq, ef) (rw e at (use-shadow trits H p (a - 1) j (omega arith) (rw e l)))
 
     pub user-zero : {b : ℕ} → b ≡ 0 → refused 33 ≡ useAnswer trits H a b
     unfolding answer

@@ -1,2 +1,3 @@
 // One question about a checked image.
 pub mod index;
+pub mod question;
