@@ -3,7 +3,7 @@ use Prim.Native.Nat.{ℕ, zero, suc, _+_, _-_, _≤_, _<_}
 use native.Mathlib.Omega.{arith}
 use native.Mathlib.Decide.{decLe}
 use native.Mathlib.Numerals.{add-one}
-use mathlib.Core.Path.{_≡_, refl, sym, ap, _∙_, subst}
+use mathlib.Core.Path.{_≡_, sym, ap, _∙_}
 use mathlib.Core.Option.{Option, none, some, Option·none-ne-some}
 use mathlib.Core.List.{List}
 use lib.Dec.{eqb, ltb}
@@ -13,9 +13,9 @@ use Rattle.format.specs.Lists.{bit, countIn, numbered}
 use Rattle.format.specs.Trits.{rank, places, select, Selected}
 use Rattle.format.specs.Image.{nodeCount, rootCount, shadowAt, group, grouped}
 use Rattle.format.specs.Proper.{tritsOf, shadowsOf, ProperTrits}
-use Rattle.format.specs.Edges.{Edge, operandAt, edgeAt, operandEdges, useEdges}
+use Rattle.format.specs.Edges.{Edge, operandAt, edgeAt, useEdges}
 use Rattle.format.specs.Question.{Reply, refused, plain, says, operandOr33, userOr33, answer, selectAnswer, operandCount, operandAnswer, useCount, useAnswer}
-use Rattle.format.proofs.Laws.{rank-mono, rank-here, rank-count, rank-three, count-le}
+use Rattle.format.proofs.Laws.{rank-mono, rank-here, rank-count, rank-three}
 use Rattle.format.proofs.Select.{select-found, place-of, place-rank, length-places}
 use Rattle.format.proofs.Sizes.{grouped-suc, length-grouped}
 use Rattle.format.proofs.ImageReads.{Each, each-append, each-kept}
@@ -26,8 +26,6 @@ use Rattle.format.proofs.Outcomes.{kind-3, kind-4, kind-5, kind-6}
 use Rattle.format.proofs.OnImage.{proper}
 use Rattle.trits.specs.declared.Layout.{Layout}
 use Rattle.trits.specs.Layout.{layoutOf, Laid}
-use Rattle.asking.specs.declared.index.Group.{Group}
-use Rattle.asking.proofs.MarkedLaws.{Counted}
 
 -- ---- what a layout says
 
@@ -224,23 +222,26 @@ module _ {trits H : List ℕ} (p : ProperTrits trits H) where
         rw eb (sym (kind-5 trits H a low high ∙ ap plain (omega (arith, use-count trits H p a low high, ap bit (lt-ltb (rootCount trits) a r)))))
 
     -- kind 6
+    -- shadow use j, counted from 1
     abbrev shadowUse : ℕ → Option Edge
-    shadowUse j = numbered (useEdges trits H a) (suc (bit (ltb (rootCount trits) a) + j))
+    shadowUse j = numbered (useEdges trits H a) (bit (ltb (rootCount trits) a) + j)
 
-    pub use-past : {j : ℕ} → countIn a H ≤ j → refused 33 ≡ userOr33 (shadowUse j)
-    use-past {j} l = ap userOr33 (sym (use-none trits H p a (suc (bit (ltb (rootCount trits) a) + j)) low high (omega arith)))
+    pub use-past : {j : ℕ} → countIn a H < j → refused 33 ≡ userOr33 (shadowUse j)
+    use-past {j} l = ap userOr33 (sym (use-none trits H p a (bit (ltb (rootCount trits) a) + j) low high (omega arith)))
 
-    pub use-there : {j f q : ℕ} → f ≡ length (grouped trits H (a - 1)) → q ≡ getD (grouped trits H (nodeCount trits)) (f + j) 0 → j < countIn a H
-        → shadowUse j ≡ some (edgeAt trits H q)
-    use-there {j} ef eq l =
+    pub use-there : {j f q : ℕ} → 1 ≤ j → j ≤ countIn a H → f ≡ length (grouped trits H (a - 1))
+        → q ≡ getD (grouped trits H (nodeCount trits)) (f + (j - 1)) 0 → shadowUse j ≡ some (edgeAt trits H q)
+    use-there {j} k l ef eq =
         let e : suc (a - 1) ≡ a = omega arith in
-        rw (eq, ef) (rw e at (use-shadow trits H p (a - 1) j (omega arith) (rw e l)))
+        let n : bit (ltb (rootCount trits) a) + j ≡ suc (bit (ltb (rootCount trits) a) + (j - 1)) = omega arith in
+        let there = rw e at (use-shadow trits H p (a - 1) (j - 1) (omega arith) (rw e (omega arith))) in
+        rw (eq, ef) (ap (numbered (useEdges trits H a)) n ∙ there)
 
     pub user-zero : {b : ℕ} → b ≡ 0 → refused 33 ≡ useAnswer trits H a b
     unfolding answer
     user-zero eb = rw eb (sym (kind-6 trits H a low high 0))
 
-    pub user-shadow : (j : ℕ) {b : ℕ} {r : Reply} → r ≡ userOr33 (shadowUse j) → suc (bit (ltb (rootCount trits) a) + j) ≡ b → r ≡ useAnswer trits H a b
+    pub user-shadow : (j : ℕ) {b : ℕ} {r : Reply} → r ≡ userOr33 (shadowUse j) → bit (ltb (rootCount trits) a) + j ≡ b → r ≡ useAnswer trits H a b
     unfolding answer
     user-shadow j {b} e eb = e ∙ ap (λ (k : ℕ). userOr33 (numbered (useEdges trits H a) k)) eb ∙ sym (kind-6 trits H a low high b)
 

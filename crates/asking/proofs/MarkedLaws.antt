@@ -15,7 +15,7 @@ use Rattle.format.specs.Image.{nodeCount, marked, marks, markWords, markSamples
 use Rattle.format.specs.Proper.{ProperTrits}
 use Rattle.format.proofs.Laws.{rank-suc, rank-count}
 use Rattle.format.proofs.Digits.{digits-at}
-use Rattle.format.proofs.Sizes.{length-marks, length-group, length-grouped, grouped-suc, grouped-le}
+use Rattle.format.proofs.Sizes.{length-marks, length-group, grouped-suc, grouped-le}
 use Rattle.format.proofs.CheckLaws.{shadow-nodes}
 use Rattle.format.proofs.Marks.{marks-at, mark-bit, marks-before, starts-at}
 use Rattle.proper.proofs.OnesLaws.{length-marked}

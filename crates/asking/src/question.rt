@@ -10,7 +10,7 @@ use format::Sort;
 use trits::Layout;
 ghost use mathlib.Core.Path.{_≡_};
 ghost use mathlib.Core.Option.{some};
-ghost use Prim.Native.Nat.{suc, _+_, _≤_, _<_};
+ghost use Prim.Native.Nat.{_+_, _≤_, _<_};
 ghost use lib.Dec.{ltb};
 ghost use lib.ListN.{length, getD};
 ghost use Rattle.format.specs.Lists.{bit, countIn, numbered};
@@ -164,24 +164,25 @@ fn uses(image: &[u8], lay: Layout, a: usize, b: usize) -> Answer
     let next = group.next;
     let shadows = next - first;
     let roots = lay.roots;
-    if a <= roots {
-        return value(shadows);
+    if roots < a {
+        return value(shadows + 1);
     }
-    value(shadows + 1)
+    value(shadows)
 }
 
-// The user of entry `j` of the node's group.
+// The user of shadow use `j` of node `a`, counted from 1.
 fn shadow_user(image: &[u8], table: &[u8; 243], lay: Layout, a: usize, j: usize) -> Answer
-    requires { ⌜ (Laid (now image) lay) × (now table ≡ tryteTable) × (1 ≤ a) × (a ≤ nodeCount (tritsOf (now image))) ⌝ }
-    ensures { λ r. ⌜ answerNumbers r ≡ userOr33 (numbered (useEdges (tritsOf (now (image .entry))) (shadowsOf (now (image .entry))) a) (suc (bit (ltb (rootCount (tritsOf (now (image .entry)))) a) + j))) ⌝ }
+    requires { ⌜ (Laid (now image) lay) × (now table ≡ tryteTable) × (1 ≤ a) × (a ≤ nodeCount (tritsOf (now image))) × (1 ≤ j) ⌝ }
+    ensures { λ r. ⌜ answerNumbers r ≡ userOr33 (numbered (useEdges (tritsOf (now (image .entry))) (shadowsOf (now (image .entry))) a) (bit (ltb (rootCount (tritsOf (now (image .entry)))) a) + j)) ⌝ }
 {
     let group = find_group(image, lay, a - 1);
     let first = group.first;
     let next = group.next;
-    if next - first <= j {
+    if next - first < j {
         return Answer::Refused(Refusal::SecondOutside);
     }
-    let p = shadow_place(image, lay, first + j);
+    let at = first + (j - 1);
+    let p = shadow_place(image, lay, at);
     let user = trits::rank(image, table, lay, 0, p);
     listed(user, Sort::Shadow)
 }
@@ -196,10 +197,10 @@ fn user(image: &[u8], table: &[u8; 243], lay: Layout, a: usize, b: usize) -> Ans
     }
     let roots = lay.roots;
     if a <= roots {
-        return shadow_user(image, table, lay, a, b - 1);
+        return shadow_user(image, table, lay, a, b);
     }
     if b != 1 {
-        return shadow_user(image, table, lay, a, b - 2);
+        return shadow_user(image, table, lay, a, b - 1);
     }
     let p = place(image, table, lay, 1, a);
     let user = trits::rank(image, table, lay, 0, p);

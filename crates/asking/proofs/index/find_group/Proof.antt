@@ -1,6 +1,5 @@
 -- `index::find_group` meets its contract: the marks before the node and up to it are numbers of section 4. Assumes nothing.
-use Prim.Native.Nat.{ℕ, suc, _+_}
-use native.Mathlib.Omega.{arith}
+use Prim.Native.Nat.{suc, _+_}
 use mathlib.Core.Path.{_≡_}
 use borrow.Author.Needs.{needs}
 use Rattle.format.specs.Trits.{rank}

@@ -1,7 +1,6 @@
 -- `question::answer` meets its contract: the kind picks the function. Assumes nothing.
 use native.Mathlib.Omega.{arith}
 use mathlib.Core.Path.{sym}
-use borrow.Author.Needs.{needs}
 use Rattle.format.specs.Proper.{tritsOf, shadowsOf}
 use Rattle.format.specs.Question.{answer}
 use Rattle.format.proofs.Replies.{kind-unknown}

@@ -1,7 +1,7 @@
 -- `question::of_node` meets its contract: a node, and then its kind. Assumes nothing.
 use Prim.Native.Nat.{_≤_}
 use native.Mathlib.Omega.{arith}
-use mathlib.Core.Path.{_≡_, sym, _∙_}
+use mathlib.Core.Path.{_≡_, sym}
 use mathlib.Core.Logic.{inl, inr}
 use Rattle.format.specs.Image.{nodeCount}
 use Rattle.format.specs.Proper.{tritsOf, shadowsOf}

@@ -1,7 +1,7 @@
 -- `question::operand` meets its contract: an operand stands before the next zero. Assumes nothing.
 use Prim.Native.Nat.{_+_, _<_}
 use native.Mathlib.Omega.{arith}
-use mathlib.Core.Path.{_≡_, refl, sym, _∙_}
+use mathlib.Core.Path.{refl, sym, _∙_}
 use lib.Dec.{lit<}
 use lib.ListN.{length}
 use Rattle.format.specs.Proper.{tritsOf}

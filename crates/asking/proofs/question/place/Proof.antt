@@ -1,5 +1,4 @@
 -- `question::place` meets its contract: a number up to the count is found. Assumes nothing.
-use native.Mathlib.Omega.{arith}
 use mathlib.Core.Path.{sym, ap, _∙_}
 use borrow.Author.Needs.{needs}
 use Rattle.format.specs.Proper.{tritsOf}

@@ -2,8 +2,6 @@
 use native.Mathlib.Omega.{arith}
 use mathlib.Core.Path.{sym, ap, _∙_}
 use mathlib.Core.List.{[]}
-use lib.ListN.{length}
-use Rattle.format.specs.Lists.{countIn}
 use Rattle.format.specs.Proper.{tritsOf}
 use Rattle.format.specs.Question.{plain, answer}
 use Rattle.format.proofs.Laws.{rank-count, count-le}

@@ -1,11 +1,9 @@
 -- `question::shadow_user` meets its contract: an entry of section 5 is a place, and the zeros before it its user. Assumes nothing.
-use Prim.Native.Nat.{_+_, _<_}
+use Prim.Native.Nat.{_+_, _-_, _<_}
 use native.Mathlib.Omega.{arith}
-use mathlib.Core.Path.{_≡_, sym, ap, _∙_}
+use mathlib.Core.Path.{sym, ap, _∙_}
 use lib.Dec.{lit<}
-use lib.ListN.{length, getD}
-use Rattle.format.specs.Lists.{countIn}
-use Rattle.format.specs.Image.{nodeCount, grouped}
+use lib.ListN.{length}
 use Rattle.format.specs.Proper.{tritsOf, shadowsOf}
 use Rattle.format.specs.Question.{userOr33}
 use Rattle.asking.proofs.MarkedLaws.{Counted, group-counted}
@@ -25,10 +23,10 @@ past c =
     let x = c .before .before .before in
     use-past (right (x .pre .0)) (x .args .a) (x .pre .2) (x .pre .3) (omega (arith, c .if1 .taken, counted (c .before)))
 
-few : (c : tie.Else1) → let x = c .before .before .before in c .before .find-group .result .first + x .args .j < length (shadowsOf (x .args .image .now))
-few c = omega (arith, c .if1 .left, counted (c .before))
+few : (c : tie.Else1) → let x = c .before .before .before in c .before .find-group .result .first + (x .args .j - 1) < length (shadowsOf (x .args .image .now))
+few c = omega (arith, c .if1 .left, counted (c .before), c .before .before .before .pre .4)
 
-add-place : tie.Need-add-shadow-place
+add-place : tie.Need-add-at
 add-place c = omega (arith, few c, shadows-few (right (c .before .before .before .pre .0)))
 
 place-requires : tie.Need-shadow-place-requires
@@ -55,7 +53,7 @@ there c =
     let x = e .before .before .before in
     c .listed .ensures
     ∙ edge-user (right (x .pre .0)) (s .shadow-place .result) (two s .1) (u .rank .ensures)
-    ∙ ap userOr33 (sym (use-there (right (x .pre .0)) (x .args .a) (x .pre .2) (x .pre .3) (counted (e .before) .first-is) (s .shadow-place .ensures) (omega (arith, e .if1 .left, counted (e .before)))))
+    ∙ ap userOr33 (sym (use-there (right (x .pre .0)) (x .args .a) (x .pre .2) (x .pre .3) (x .pre .4) (omega (arith, e .if1 .left, counted (e .before))) (counted (e .before) .first-is) (s .shadow-place .ensures)))
 
 pub shadow-user-spec : {M : Type 1} → statement M
 shadow-user-spec =
@@ -65,6 +63,7 @@ shadow-user-spec =
     group-requires
     (λ c. omega (arith, counted c))
     past
+    (λ c. omega (arith, c .before .before .before .pre .4))
     add-place
     place-requires
     rank-requires

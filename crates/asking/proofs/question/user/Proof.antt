@@ -13,12 +13,20 @@ use Rattle.asking.proofs.question.user.Tie as tie
 no-zeroth : tie.Need-returns
 no-zeroth c = let x = c .before .before in user-zero (right (x .pre .0)) (x .args .a) (x .pre .2) (x .pre .3) (c .if1 .taken)
 
+root-requires : tie.Need-shadow-user-requires
+root-requires c κs = let x = c .before .before .before in (x .pre .0, x .pre .1, x .pre .2, x .pre .3, omega (arith, c .before .if1 .left))
+
+other-requires : tie.Need-shadow-user-requires-2
+other-requires c κs =
+    let x = c .before .before .before .before in
+    (x .pre .0, x .pre .1, x .pre .2, x .pre .3, omega (arith, c .before .before .if1 .left, c .if3 .taken))
+
 of-root : tie.Need-returns-2
 of-root c =
     let r = c .before in
     let x = r .before .before .before in
     let root = le-ltb (rootCount (tritsOf (x .args .image .now))) (x .args .a) (omega (arith, r .if2 .taken, roots-is (x .pre .0))) in
-    user-shadow (right (x .pre .0)) (x .args .a) (x .pre .2) (x .pre .3) _ (c .shadow-user .ensures) (omega (arith, r .before .if1 .left, ap bit root))
+    user-shadow (right (x .pre .0)) (x .args .a) (x .pre .2) (x .pre .3) _ (c .shadow-user .ensures) (omega (arith, ap bit root))
 
 of-other : tie.Need-returns-3
 of-other c =
@@ -26,7 +34,7 @@ of-other c =
     let r = n .before in
     let x = r .before .before .before in
     let other = lt-ltb (rootCount (tritsOf (x .args .image .now))) (x .args .a) (omega (arith, r .if2 .left, roots-is (x .pre .0))) in
-    user-shadow (right (x .pre .0)) (x .args .a) (x .pre .2) (x .pre .3) _ (c .shadow-user2 .ensures) (omega (arith, r .before .if1 .left, n .if3 .taken, ap bit other))
+    user-shadow (right (x .pre .0)) (x .args .a) (x .pre .2) (x .pre .3) _ (c .shadow-user2 .ensures) (omega (arith, r .before .if1 .left, ap bit other))
 
 place-requires : tie.Need-place-requires
 place-requires c κs =
@@ -57,11 +65,10 @@ user-spec =
     tie.close
     (tie.spec
     no-zeroth
-    (λ c. omega (arith, c .before .if1 .left))
-    (λ c κs. let x = c .before .before .before in x .pre)
+    root-requires
     of-root
-    (λ c. omega (arith, c .before .before .if1 .left, c .if3 .taken))
-    (λ c κs. let x = c .before .before .before .before in x .pre)
+    (λ c. omega (arith, c .before .before .if1 .left))
+    other-requires
     of-other
     place-requires
     rank-requires

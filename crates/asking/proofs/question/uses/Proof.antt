@@ -3,7 +3,6 @@ use native.Mathlib.Omega.{arith}
 use mathlib.Core.Path.{sym, _∙_}
 use Rattle.format.specs.Proper.{tritsOf, shadowsOf}
 use Rattle.format.specs.Question.{answer}
-use Rattle.format.proofs.ProperLaws.{length-trits}
 use Rattle.format.proofs.Replies.{uses-33}
 use Rattle.asking.proofs.MarkedLaws.{Counted, group-counted}
 use Rattle.asking.proofs.KindLaws.{right, roots-is, shadows-few, uses-root, uses-real}
@@ -24,34 +23,25 @@ counted : (c : tie.After-find-group) → let x = c .before .before .before in
     Counted (tritsOf (x .args .image .now)) (shadowsOf (x .args .image .now)) (x .args .a) (c .find-group .result)
 counted c = let x = c .before .before .before in group-counted (right (x .pre .0)) (x .args .a) (x .pre .1) (c .find-group .ensures)
 
-root-requires : tie.Need-value-requires
-root-requires c κs =
-    let x = c .before .before .before .before in
-    omega (arith, counted (c .before), shadows-few (right (x .pre .0)))
+real-requires : tie.Need-value-requires
+real-requires c κs = omega (arith, counted (c .before), shadows-few (right (c .before .before .before .before .pre .0)))
 
-root : tie.Need-returns-2
-root c =
-    let g = c .before .before in
-    let x = g .before .before .before in
-    c .value .ensures
-    ∙ uses-root (right (x .pre .0)) (x .args .a) (x .pre .1) (x .pre .2) (g .before .if1 .left) (omega (arith, c .before .if2 .taken, roots-is (x .pre .0))) (omega (arith, counted g))
-
-add-real : tie.Need-add-value
-add-real c =
-    let x = c .before .before .before .before in
-    omega (arith, counted (c .before), shadows-few (right (x .pre .0)))
-
-real-requires : tie.Need-value-requires-2
-real-requires c κs =
-    let x = c .before .before .before .before in
-    omega (arith, counted (c .before), shadows-few (right (x .pre .0)))
-
-real : tie.Need-returns-3
+real : tie.Need-returns-2
 real c =
     let g = c .before .before in
     let x = g .before .before .before in
+    c .value .ensures
+    ∙ uses-real (right (x .pre .0)) (x .args .a) (x .pre .1) (x .pre .2) (g .before .if1 .left) (omega (arith, c .before .if2 .taken, roots-is (x .pre .0))) (omega (arith, counted g))
+
+root-requires : tie.Need-value-requires-2
+root-requires c κs = omega (arith, counted (c .before), shadows-few (right (c .before .before .before .before .pre .0)))
+
+root : tie.Need-returns-3
+root c =
+    let g = c .before .before in
+    let x = g .before .before .before in
     c .value2 .ensures
-    ∙ uses-real (right (x .pre .0)) (x .args .a) (x .pre .1) (x .pre .2) (g .before .if1 .left) (omega (arith, c .before .if2 .left, roots-is (x .pre .0))) (omega (arith, counted g))
+    ∙ uses-root (right (x .pre .0)) (x .args .a) (x .pre .1) (x .pre .2) (g .before .if1 .left) (omega (arith, c .before .if2 .left, roots-is (x .pre .0))) (omega (arith, counted g))
 
 pub uses-spec : {M : Type 1} → statement M
 uses-spec =
@@ -61,8 +51,8 @@ uses-spec =
     (λ c. omega (arith, c .before .before .pre .1))
     group-requires
     (λ c. omega (arith, counted c))
-    root-requires
-    root
-    add-real
+    (λ c. omega (arith, counted (c .before), shadows-few (right (c .before .before .before .before .pre .0))))
     real-requires
-    real)
+    real
+    root-requires
+    root)
