@@ -26,6 +26,7 @@ use Rattle.format.proofs.Outcomes.{kind-3, kind-4, kind-5, kind-6}
 use Rattle.format.proofs.OnImage.{proper}
 use Rattle.trits.specs.declared.Layout.{Layout}
 use Rattle.trits.specs.Layout.{layoutOf, Laid}
+use Rattle.asking.specs.Nodes.{NodeIn}
 
 -- ---- what a layout says
 
@@ -103,13 +104,13 @@ module _ {trits H : List ℕ} (p : ProperTrits trits H) where
   -- ---- edges at a place
 
   -- p holds a 1: the next node; a 2: the next entry of H
-  pub edge-real : (q : ℕ) {o : ℕ} → getD trits q 0 ≡ 1 → o ≡ rank 1 trits q → says 0 (o + 1) 1 ≡ operandOr33 (some (edgeAt trits H q))
+  pub edge-real : (q : ℕ) {o s : ℕ} → getD trits q 0 ≡ 1 → o ≡ rank 1 trits q → s ≡ 1 → says 0 (o + 1) s ≡ operandOr33 (some (edgeAt trits H q))
   unfolding edgeAt operandAt
-  edge-real q e eo = rw (eo, e)
+  edge-real q e eo es = rw (eo, es, e)
 
-  pub edge-shadow : (q : ℕ) {x : ℕ} → getD trits q 0 ≡ 2 → x ≡ getD H (rank 2 trits q) 0 → says 0 x 2 ≡ operandOr33 (some (edgeAt trits H q))
+  pub edge-shadow : (q : ℕ) {x s : ℕ} → getD trits q 0 ≡ 2 → x ≡ getD H (rank 2 trits q) 0 → s ≡ 2 → says 0 x s ≡ operandOr33 (some (edgeAt trits H q))
   unfolding edgeAt operandAt shadowAt
-  edge-shadow q e ex = rw (ex, e)
+  edge-shadow q e ex es = rw (ex, es, e)
 
   pub edge-user : (q : ℕ) {u s : ℕ} → getD trits q 0 ≡ s → u ≡ rank 0 trits q → says 0 u s ≡ userOr33 (some (edgeAt trits H q))
   unfolding edgeAt
@@ -137,117 +138,132 @@ module _ {trits H : List ℕ} (p : ProperTrits trits H) where
         inside = λ e. omega (arith, rank-here 2 trits q l e, rank-count 2 trits (suc q), p .paired);
       }
 
-  -- ---- a node
+-- ---- kinds 3 to 6, of a node
 
-  module _ (a : ℕ) (low : 1 ≤ a) (high : a ≤ nodeCount trits) where
-    pub zero-there : a + 1 ≤ countIn 0 trits
-    zero-there = omega (arith, zeros-ones trits (p .is-balanced))
+module _ {image : List ℕ} {lay : Layout} {a : ℕ} (n : NodeIn image lay a) where
+  abbrev trits : List ℕ
+  trits = tritsOf image
 
-    pub one-there : a ≤ countIn 1 trits
-    unfolding nodeCount
-    one-there = high
+  abbrev H : List ℕ
+  H = shadowsOf image
 
-    -- kind 3
-    pub operands-value : {b z n : ℕ} → b ≡ 0 → Selected 0 trits a z → Selected 0 trits (a + 1) n → plain (n - z - 1) ≡ operandCount trits H a b
-    unfolding answer
-    operands-value eb Z N =
-        rw (eb, selected-nth Z, selected-nth N, add-one a) (sym (kind-3 trits H a low high ∙ ap plain (operand-count trits H p a low high)))
+  abbrev p : ProperTrits trits H
+  p = right (n .laid)
 
-    -- kind 4
-    pub operand-zero : {b : ℕ} → b ≡ 0 → refused 33 ≡ operandAnswer trits H a b
-    unfolding answer
-    operand-zero eb = rw eb (sym (kind-4 trits H a low high 0))
+  abbrev low : 1 ≤ a
+  low = n .low
 
-    next : ℕ
-    next = nth 0 trits (suc a)
+  abbrev high : a ≤ nodeCount trits
+  high = n .high
 
-    Next : Selected 0 trits (suc a) next
-    unfolding next
-    Next = nth-selected 0 trits (suc a) (omega arith) (omega (arith, zeros-ones trits (p .is-balanced)))
+  pub zero-there : a + 1 ≤ countIn 0 trits
+  zero-there = omega (arith, zeros-ones trits (p .is-balanced))
 
-    module _ {b z : ℕ} (hb : 1 ≤ b) (Z : Selected 0 trits a z) where
-      -- no zero stands after z before next
-      between : z + b < next → (rank 0 trits (z + b) ≡ a) × (getD trits (z + b) 0 ≡ 0 → ⊥)
-      between l =
-          let from : a ≤ rank 0 trits (z + b) = omega (arith, Z .ranked, rank-here 0 trits z (Z .inside) (Z .holds), rank-mono 0 trits (suc z) (z + b) (omega arith)) in
-          let to : rank 0 trits (suc (z + b)) ≤ a = omega (arith, Next .ranked, rank-mono 0 trits (suc (z + b)) next l) in (
-            omega (arith, rank-mono 0 trits (z + b) (suc (z + b)) (omega arith)),
-            λ e. omega (arith, rank-here 0 trits (z + b) (omega (arith, Next .inside)) e),
-          )
+  pub one-there : a ≤ countIn 1 trits
+  unfolding nodeCount
+  one-there = high
 
-      gone : next ≤ z + b → refused 33 ≡ operandAnswer trits H a b
-      unfolding answer next
-      gone l = sym (kind-4 trits H a low high b ∙ ap operandOr33 (operand-none trits H p a b low high (omega (arith, selected-nth Z))))
+  -- kind 3
+  pub operands-value : {b z y : ℕ} → b ≡ 0 → Selected 0 trits a z → Selected 0 trits (a + 1) y → plain (y - z - 1) ≡ operandCount trits H a b
+  unfolding answer
+  operands-value eb Z Y =
+      rw (eb, selected-nth Z, selected-nth Y, add-one a) (sym (kind-3 trits H a low high ∙ ap plain (operand-count trits H p a low high)))
 
-      missing : ((rank 0 trits (z + b) ≡ a) × (getD trits (z + b) 0 ≡ 0 → ⊥) → ⊥) → refused 33 ≡ operandAnswer trits H a b
-      missing h = go (decLe next (z + b))
-        where
-          go : Dec (next ≤ z + b) → refused 33 ≡ operandAnswer trits H a b
-          go (yes l) = gone l
-          go (no l) = absurd (h (between (omega arith)))
+  -- kind 4
+  pub operand-zero : {b : ℕ} → b ≡ 0 → refused 33 ≡ operandAnswer trits H a b
+  unfolding answer
+  operand-zero eb = rw eb (sym (kind-4 trits H a low high 0))
 
-      pub operand-outside : length trits - z ≤ b → refused 33 ≡ operandAnswer trits H a b
-      operand-outside l = gone (omega (arith, Next .inside))
+  next : ℕ
+  next = nth 0 trits (suc a)
 
-      pub operand-end : {q t : ℕ} → q ≡ z + b → t ≡ getD trits q 0 → t ≡ 0 → refused 33 ≡ operandAnswer trits H a b
-      operand-end eq et e = missing (λ h. h .1 (ap (λ (k : ℕ). getD trits k 0) (sym eq) ∙ sym et ∙ e))
+  Next : Selected 0 trits (suc a) next
+  unfolding next
+  Next = nth-selected 0 trits (suc a) (omega arith) (omega (arith, zeros-ones trits (p .is-balanced)))
 
-      pub operand-other : {q x : ℕ} → q ≡ z + b → x ≡ rank 0 trits q → (x ≡ a → ⊥) → refused 33 ≡ operandAnswer trits H a b
-      operand-other eq ex ne = missing (λ h. ne (ex ∙ ap (rank 0 trits) eq ∙ h .0))
+  module _ {b z : ℕ} (hb : 1 ≤ b) (Z : Selected 0 trits a z) where
+    -- no zero stands after z before next
+    between : z + b < next → (rank 0 trits (z + b) ≡ a) × (getD trits (z + b) 0 ≡ 0 → ⊥)
+    between l =
+        let from : a ≤ rank 0 trits (z + b) = omega (arith, Z .ranked, rank-here 0 trits z (Z .inside) (Z .holds), rank-mono 0 trits (suc z) (z + b) (omega arith)) in
+        let to : rank 0 trits (suc (z + b)) ≤ a = omega (arith, Next .ranked, rank-mono 0 trits (suc (z + b)) next l) in (
+          omega (arith, rank-mono 0 trits (z + b) (suc (z + b)) (omega arith)),
+          λ e. omega (arith, rank-here 0 trits (z + b) (omega (arith, Next .inside)) e),
+        )
 
-      pub operand-there : z + b < length trits → rank 0 trits (z + b) ≡ a → (getD trits (z + b) 0 ≡ 0 → ⊥)
-          → operandOr33 (some (edgeAt trits H (z + b))) ≡ operandAnswer trits H a b
-      unfolding answer next
-      operand-there l er ne = go (decLe next (z + b))
-        where
-          go : Dec (next ≤ z + b) → operandOr33 (some (edgeAt trits H (z + b))) ≡ operandAnswer trits H a b
-          go (no q) =
-              sym (kind-4 trits H a low high b
-              ∙ ap operandOr33 (operand-at trits H p a b low high hb (omega (arith, selected-nth Z)) ∙ ap {B = Option Edge} (λ k. some (edgeAt trits H (k + b))) (sym (selected-nth Z))))
-          go (yes q) = absurd (at-end (decLe (z + b) next))
-            where
-              at-end : Dec (z + b ≤ next) → ⊥
-              at-end (yes k) = let e : z + b ≡ next = omega arith in ne (ap (λ (k : ℕ). getD trits k 0) e ∙ Next .holds)
-              at-end (no k) = omega (arith, Next .ranked, rank-here 0 trits next (Next .inside) (Next .holds), rank-mono 0 trits (suc next) (z + b) (omega arith))
+    gone : next ≤ z + b → refused 33 ≡ operandAnswer trits H a b
+    unfolding answer next
+    gone l = sym (kind-4 trits H a low high b ∙ ap operandOr33 (operand-none trits H p a b low high (omega (arith, selected-nth Z))))
 
-    -- kind 5
-    pub uses-root : {b k : ℕ} → b ≡ 0 → a ≤ rootCount trits → k ≡ countIn a H → plain k ≡ useCount trits H a b
-    unfolding answer
-    uses-root eb r ek =
-        rw eb (sym (kind-5 trits H a low high ∙ ap plain (omega (arith, use-count trits H p a low high, ap bit (le-ltb (rootCount trits) a r)))))
+    missing : ((rank 0 trits (z + b) ≡ a) × (getD trits (z + b) 0 ≡ 0 → ⊥) → ⊥) → refused 33 ≡ operandAnswer trits H a b
+    missing h = go (decLe next (z + b))
+      where
+        go : Dec (next ≤ z + b) → refused 33 ≡ operandAnswer trits H a b
+        go (yes l) = gone l
+        go (no l) = absurd (h (between (omega arith)))
 
-    pub uses-real : {b k : ℕ} → b ≡ 0 → rootCount trits < a → k ≡ countIn a H + 1 → plain k ≡ useCount trits H a b
-    unfolding answer
-    uses-real eb r ek =
-        rw eb (sym (kind-5 trits H a low high ∙ ap plain (omega (arith, use-count trits H p a low high, ap bit (lt-ltb (rootCount trits) a r)))))
+    pub operand-outside : length trits - z ≤ b → refused 33 ≡ operandAnswer trits H a b
+    operand-outside l = gone (omega (arith, Next .inside))
 
-    -- kind 6
-    -- shadow use j, counted from 1
-    abbrev shadowUse : ℕ → Option Edge
-    shadowUse j = numbered (useEdges trits H a) (bit (ltb (rootCount trits) a) + j)
+    pub operand-end : {q t : ℕ} → q ≡ z + b → t ≡ getD trits q 0 → t ≡ 0 → refused 33 ≡ operandAnswer trits H a b
+    operand-end eq et e = missing (λ h. h .1 (ap (λ (k : ℕ). getD trits k 0) (sym eq) ∙ sym et ∙ e))
 
-    pub use-past : {j : ℕ} → countIn a H < j → refused 33 ≡ userOr33 (shadowUse j)
-    use-past {j} l = ap userOr33 (sym (use-none trits H p a (bit (ltb (rootCount trits) a) + j) low high (omega arith)))
+    pub operand-other : {q x : ℕ} → q ≡ z + b → x ≡ rank 0 trits q → (x ≡ a → ⊥) → refused 33 ≡ operandAnswer trits H a b
+    operand-other eq ex ne = missing (λ h. ne (ex ∙ ap (rank 0 trits) eq ∙ h .0))
 
-    pub use-there : {j f q : ℕ} → 1 ≤ j → j ≤ countIn a H → f ≡ length (grouped trits H (a - 1))
-        → q ≡ getD (grouped trits H (nodeCount trits)) (f + (j - 1)) 0 → shadowUse j ≡ some (edgeAt trits H q)
-    use-there {j} k l ef eq =
-        let e : suc (a - 1) ≡ a = omega arith in
-        let n : bit (ltb (rootCount trits) a) + j ≡ suc (bit (ltb (rootCount trits) a) + (j - 1)) = omega arith in
-        let there = rw e at (use-shadow trits H p (a - 1) (j - 1) (omega arith) (rw e (omega arith))) in
-        rw (eq, ef) (ap (numbered (useEdges trits H a)) n ∙ there)
+    pub operand-there : z + b < length trits → rank 0 trits (z + b) ≡ a → (getD trits (z + b) 0 ≡ 0 → ⊥)
+        → operandOr33 (some (edgeAt trits H (z + b))) ≡ operandAnswer trits H a b
+    unfolding answer next
+    operand-there l er ne = go (decLe next (z + b))
+      where
+        go : Dec (next ≤ z + b) → operandOr33 (some (edgeAt trits H (z + b))) ≡ operandAnswer trits H a b
+        go (no q) =
+            sym (kind-4 trits H a low high b
+            ∙ ap operandOr33 (operand-at trits H p a b low high hb (omega (arith, selected-nth Z)) ∙ ap {B = Option Edge} (λ k. some (edgeAt trits H (k + b))) (sym (selected-nth Z))))
+        go (yes q) = absurd (at-end (decLe (z + b) next))
+          where
+            at-end : Dec (z + b ≤ next) → ⊥
+            at-end (yes k) = let e : z + b ≡ next = omega arith in ne (ap (λ (k : ℕ). getD trits k 0) e ∙ Next .holds)
+            at-end (no k) = omega (arith, Next .ranked, rank-here 0 trits next (Next .inside) (Next .holds), rank-mono 0 trits (suc next) (z + b) (omega arith))
 
-    pub user-zero : {b : ℕ} → b ≡ 0 → refused 33 ≡ useAnswer trits H a b
-    unfolding answer
-    user-zero eb = rw eb (sym (kind-6 trits H a low high 0))
+  -- kind 5
+  pub uses-root : {b k : ℕ} → b ≡ 0 → a ≤ rootCount trits → k ≡ countIn a H → plain k ≡ useCount trits H a b
+  unfolding answer
+  uses-root eb r ek =
+      rw eb (sym (kind-5 trits H a low high ∙ ap plain (omega (arith, use-count trits H p a low high, ap bit (le-ltb (rootCount trits) a r)))))
 
-    pub user-shadow : (j : ℕ) {b : ℕ} {r : Reply} → r ≡ userOr33 (shadowUse j) → bit (ltb (rootCount trits) a) + j ≡ b → r ≡ useAnswer trits H a b
-    unfolding answer
-    user-shadow j {b} e eb = e ∙ ap (λ (k : ℕ). userOr33 (numbered (useEdges trits H a) k)) eb ∙ sym (kind-6 trits H a low high b)
+  pub uses-real : {b k : ℕ} → b ≡ 0 → rootCount trits < a → k ≡ countIn a H + 1 → plain k ≡ useCount trits H a b
+  unfolding answer
+  uses-real eb r ek =
+      rw eb (sym (kind-5 trits H a low high ∙ ap plain (omega (arith, use-count trits H p a low high, ap bit (lt-ltb (rootCount trits) a r)))))
 
-    pub user-real : {b q u : ℕ} → b ≡ 1 → rootCount trits < a → Selected 1 trits a q → u ≡ rank 0 trits q → says 0 u 1 ≡ useAnswer trits H a b
-    unfolding answer
-    user-real {b} {q} eb r S eu =
-        edge-user q (S .holds) eu
-        ∙ ap (λ (k : ℕ). userOr33 (some (edgeAt trits H k))) (selected-nth S)
-        ∙ rw eb (sym (kind-6 trits H a low high 1 ∙ ap userOr33 (use-real trits H p a r high)))
+  -- kind 6
+  -- shadow use j, counted from 1
+  abbrev shadowUse : ℕ → Option Edge
+  shadowUse j = numbered (useEdges trits H a) (bit (ltb (rootCount trits) a) + j)
+
+  pub use-past : {j : ℕ} → countIn a H < j → refused 33 ≡ userOr33 (shadowUse j)
+  use-past {j} l = ap userOr33 (sym (use-none trits H p a (bit (ltb (rootCount trits) a) + j) low high (omega arith)))
+
+  pub use-there : {j f q : ℕ} → 1 ≤ j → j ≤ countIn a H → f ≡ length (grouped trits H (a - 1))
+      → q ≡ getD (grouped trits H (nodeCount trits)) (f + (j - 1)) 0 → shadowUse j ≡ some (edgeAt trits H q)
+  use-there {j} k l ef eq =
+      let e : suc (a - 1) ≡ a = omega arith in
+      let m : bit (ltb (rootCount trits) a) + j ≡ suc (bit (ltb (rootCount trits) a) + (j - 1)) = omega arith in
+      let there = rw e at (use-shadow trits H p (a - 1) (j - 1) (omega arith) (rw e (omega arith))) in
+      rw (eq, ef) (ap (numbered (useEdges trits H a)) m ∙ there)
+
+  pub user-zero : {b : ℕ} → b ≡ 0 → refused 33 ≡ useAnswer trits H a b
+  unfolding answer
+  user-zero eb = rw eb (sym (kind-6 trits H a low high 0))
+
+  pub user-shadow : (j : ℕ) {b : ℕ} {r : Reply} → r ≡ userOr33 (shadowUse j) → bit (ltb (rootCount trits) a) + j ≡ b → r ≡ useAnswer trits H a b
+  unfolding answer
+  user-shadow j {b} e eb = e ∙ ap (λ (k : ℕ). userOr33 (numbered (useEdges trits H a) k)) eb ∙ sym (kind-6 trits H a low high b)
+
+  pub user-real : {b q u : ℕ} → b ≡ 1 → rootCount trits < a → Selected 1 trits a q → u ≡ rank 0 trits q → says 0 u 1 ≡ useAnswer trits H a b
+  unfolding answer
+  user-real {b} {q} eb r S eu =
+      edge-user p q (S .holds) eu
+      ∙ ap (λ (k : ℕ). userOr33 (some (edgeAt trits H k))) (selected-nth S)
+      ∙ rw eb (sym (kind-6 trits H a low high 1 ∙ ap userOr33 (use-real trits H p a r high)))

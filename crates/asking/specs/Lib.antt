@@ -1,2 +1,3 @@
 -- What the functions of this crate answer each other, over the definitions of `format`.
 pub mod Bounds
+pub mod Nodes

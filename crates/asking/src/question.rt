@@ -15,12 +15,13 @@ ghost use lib.Dec.{ltb};
 ghost use lib.ListN.{length, getD};
 ghost use Rattle.format.specs.Lists.{bit, countIn, numbered};
 ghost use Rattle.format.specs.Trits.{tryteTable, rank, Selected};
-ghost use Rattle.format.specs.Image.{nodeCount, rootCount};
+ghost use Rattle.format.specs.Image.{rootCount};
 ghost use Rattle.format.specs.Proper.{checkImage, tritsOf, shadowsOf};
 ghost use Rattle.format.specs.Edges.{edgeAt, useEdges};
 ghost use Rattle.format.specs.Question.{plain, says, operandOr33, userOr33, tritAnswer, rankAnswer, selectAnswer, operandCount, operandAnswer, useCount, useAnswer, answer};
 ghost use Rattle.format.specs.Answers.{sortNumber, answerNumbers};
 ghost use Rattle.trits.specs.Layout.{layoutOf, Laid};
+ghost use Rattle.asking.specs.Nodes.{NodeIn};
 
 // A plain value.
 fn value(x: usize) -> Answer
@@ -102,7 +103,7 @@ fn place(image: &[u8], table: &[u8; 243], lay: Layout, t: usize, j: usize) -> us
 
 // Kind 3: the operands stand between the zero number `a` and the next.
 fn operands(image: &[u8], table: &[u8; 243], lay: Layout, a: usize, b: usize) -> Answer
-    requires { ⌜ (Laid (now image) lay) × (now table ≡ tryteTable) × (1 ≤ a) × (a ≤ nodeCount (tritsOf (now image))) ⌝ }
+    requires { ⌜ (NodeIn (now image) lay a) × (now table ≡ tryteTable) ⌝ }
     ensures { λ r. ⌜ answerNumbers r ≡ operandCount (tritsOf (now (image .entry))) (shadowsOf (now (image .entry))) a b ⌝ }
 {
     if b != 0 {
@@ -128,7 +129,7 @@ fn edge(image: &[u8], table: &[u8; 243], lay: Layout, p: usize, zeros: usize, t:
 
 // Kind 4: operand `b` stands `b` places after the zero number `a`, where no other zero stands up to it.
 fn operand(image: &[u8], table: &[u8; 243], lay: Layout, a: usize, b: usize) -> Answer
-    requires { ⌜ (Laid (now image) lay) × (now table ≡ tryteTable) × (1 ≤ a) × (a ≤ nodeCount (tritsOf (now image))) ⌝ }
+    requires { ⌜ (NodeIn (now image) lay a) × (now table ≡ tryteTable) ⌝ }
     ensures { λ r. ⌜ answerNumbers r ≡ operandAnswer (tritsOf (now (image .entry))) (shadowsOf (now (image .entry))) a b ⌝ }
 {
     let trits = lay.trits;
@@ -153,7 +154,7 @@ fn operand(image: &[u8], table: &[u8; 243], lay: Layout, a: usize, b: usize) -> 
 
 // Kind 5: the entries of the node's group, and its real use where it is no root.
 fn uses(image: &[u8], lay: Layout, a: usize, b: usize) -> Answer
-    requires { ⌜ (Laid (now image) lay) × (1 ≤ a) × (a ≤ nodeCount (tritsOf (now image))) ⌝ }
+    requires { ⌜ NodeIn (now image) lay a ⌝ }
     ensures { λ r. ⌜ answerNumbers r ≡ useCount (tritsOf (now (image .entry))) (shadowsOf (now (image .entry))) a b ⌝ }
 {
     if b != 0 {
@@ -172,7 +173,7 @@ fn uses(image: &[u8], lay: Layout, a: usize, b: usize) -> Answer
 
 // The user of shadow use `j` of node `a`, counted from 1.
 fn shadow_user(image: &[u8], table: &[u8; 243], lay: Layout, a: usize, j: usize) -> Answer
-    requires { ⌜ (Laid (now image) lay) × (now table ≡ tryteTable) × (1 ≤ a) × (a ≤ nodeCount (tritsOf (now image))) × (1 ≤ j) ⌝ }
+    requires { ⌜ (NodeIn (now image) lay a) × (now table ≡ tryteTable) × (1 ≤ j) ⌝ }
     ensures { λ r. ⌜ answerNumbers r ≡ userOr33 (numbered (useEdges (tritsOf (now (image .entry))) (shadowsOf (now (image .entry))) a) (bit (ltb (rootCount (tritsOf (now (image .entry)))) a) + j)) ⌝ }
 {
     let group = find_group(image, lay, a - 1);
@@ -189,7 +190,7 @@ fn shadow_user(image: &[u8], table: &[u8; 243], lay: Layout, a: usize, j: usize)
 
 // Kind 6: the real use comes first, where the node is no root.
 fn user(image: &[u8], table: &[u8; 243], lay: Layout, a: usize, b: usize) -> Answer
-    requires { ⌜ (Laid (now image) lay) × (now table ≡ tryteTable) × (1 ≤ a) × (a ≤ nodeCount (tritsOf (now image))) ⌝ }
+    requires { ⌜ (NodeIn (now image) lay a) × (now table ≡ tryteTable) ⌝ }
     ensures { λ r. ⌜ answerNumbers r ≡ useAnswer (tritsOf (now (image .entry))) (shadowsOf (now (image .entry))) a b ⌝ }
 {
     if b == 0 {

@@ -20,7 +20,7 @@ real : tie.Need-returns
 real c =
     let s = c .before .before in
     let x = s .before .before in
-    c .listed .ensures ∙ edge-real (right (x .pre .0)) (x .args .p) (sym (x .pre .4) ∙ c .before .if1 .taken) (s .rank .ensures)
+    c .listed .ensures ∙ edge-real (right (x .pre .0)) (x .args .p) (sym (x .pre .4) ∙ c .before .if1 .taken) (s .rank .ensures) (omega arith)
 
 left : (c : tie.Else1) → let x = c .before .before .before in Twos (right (x .pre .0)) (x .args .p) (x .args .zeros) (c .before .rank .result)
 left c = let x = c .before .before .before in twos (right (x .pre .0)) (x .pre .2) (x .pre .3) (c .before .rank .ensures)
@@ -44,7 +44,7 @@ shadow c =
     let e = c .before .before in
     let x = e .before .before .before in
     c .listed2 .ensures
-    ∙ edge-shadow (right (x .pre .0)) (x .args .p) (two e) (c .before .shadow .ensures ∙ ap (λ k. getD (shadowsOf (x .args .image .now)) k 0) (left e .left))
+    ∙ edge-shadow (right (x .pre .0)) (x .args .p) (two e) (c .before .shadow .ensures ∙ ap (λ k. getD (shadowsOf (x .args .image .now)) k 0) (left e .left)) (omega arith)
 
 pub edge-spec : {M : Type 1} → statement M
 edge-spec =

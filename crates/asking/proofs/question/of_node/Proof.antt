@@ -1,12 +1,11 @@
 -- `question::of_node` meets its contract: a node, and then its kind. Assumes nothing.
-use Prim.Native.Nat.{_≤_}
 use native.Mathlib.Omega.{arith}
 use mathlib.Core.Path.{_≡_, sym}
 use mathlib.Core.Logic.{inl, inr}
-use Rattle.format.specs.Image.{nodeCount}
 use Rattle.format.specs.Proper.{tritsOf, shadowsOf}
 use Rattle.format.specs.Question.{answer}
 use Rattle.format.proofs.Replies.{node-32}
+use Rattle.asking.specs.Nodes.{NodeIn}
 use Rattle.asking.proofs.KindLaws.{nodes-is}
 use Rattle.asking.proofs.question.of_node.Statement.{statement}
 use Rattle.asking.proofs.question.of_node.Tie as tie
@@ -23,8 +22,10 @@ past-nodes c =
     let b = x .args .image .now in
     sym (node-32 (tritsOf b) (shadowsOf b) (x .args .kind) (x .args .a) (x .args .b) (x .pre .2) (x .pre .3) (inr (omega (arith, c .if2 .taken, nodes-is (x .pre .0)))))
 
-node : (c : tie.Else2) → let x = c .before .before .before in (1 ≤ x .args .a) × (x .args .a ≤ nodeCount (tritsOf (x .args .image .now)))
-node c = let x = c .before .before .before in (omega (arith, c .before .if1 .left), omega (arith, c .if2 .left, nodes-is (x .pre .0)))
+node : (c : tie.Else2) → let x = c .before .before .before in NodeIn (x .args .image .now) (x .args .lay) (x .args .a)
+node c =
+    let x = c .before .before .before in
+    record { laid = x .pre .0; low = omega (arith, c .before .if1 .left); high = omega (arith, c .if2 .left, nodes-is (x .pre .0)) }
 
 returns-3 : tie.Need-returns-3
 unfolding answer
@@ -52,10 +53,10 @@ of-node-spec =
     (tie.spec
     no-node
     past-nodes
-    (λ c κs. let x = c .before .before .before .before in (x .pre .0, x .pre .1, node (c .before) .0, node (c .before) .1))
-    (λ c κs. let x = c .before .before .before .before in (x .pre .0, x .pre .1, node (c .before) .0, node (c .before) .1))
-    (λ c κs. let x = c .before .before .before .before in (x .pre .0, node (c .before) .0, node (c .before) .1))
-    (λ c κs. let x = c .before .before .before .before in (x .pre .0, x .pre .1, node (c .before) .0, node (c .before) .1))
+    (λ c κs. (node (c .before), c .before .before .before .before .pre .1))
+    (λ c κs. (node (c .before), c .before .before .before .before .pre .1))
+    (λ c κs. node (c .before))
+    (λ c κs. (node (c .before), c .before .before .before .before .pre .1))
     returns-3
     returns-4
     returns-5

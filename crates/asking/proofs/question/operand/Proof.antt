@@ -5,57 +5,57 @@ use mathlib.Core.Path.{refl, sym, _∙_}
 use lib.Dec.{lit<}
 use lib.ListN.{length}
 use Rattle.format.specs.Proper.{tritsOf}
-use Rattle.asking.proofs.KindLaws.{right, trits-is, zero-there, operand-zero, operand-outside, operand-end, operand-other, operand-there}
+use Rattle.asking.proofs.KindLaws.{trits-is, zero-there, operand-zero, operand-outside, operand-end, operand-other, operand-there}
 use Rattle.asking.proofs.question.operand.Statement.{statement}
 use Rattle.asking.proofs.question.operand.Tie as tie
 
 no-zeroth : tie.Need-returns
-no-zeroth c = let x = c .before .before in operand-zero (right (x .pre .0)) (x .args .a) (x .pre .2) (x .pre .3) (c .if1 .taken)
+no-zeroth c = let x = c .before .before in operand-zero (x .pre .0) (c .if1 .taken)
 
 place-requires : tie.Need-place-requires
 place-requires c κs =
     let x = c .before .before in
-    (x .pre .0, x .pre .1, lit< tt, x .pre .2, omega (arith, zero-there (right (x .pre .0)) (x .args .a) (x .pre .2) (x .pre .3)))
+    (x .pre .0 .laid, x .pre .1, lit< tt, x .pre .0 .low, omega (arith, zero-there (x .pre .0)))
 
 sub-trits : tie.Need-sub-if2
-sub-trits c = let x = c .before .before .before in omega (arith, c .place .ensures .inside, trits-is (x .pre .0))
+sub-trits c = let x = c .before .before .before in omega (arith, c .place .ensures .inside, trits-is (x .pre .0 .laid))
 
 past-end : tie.Need-returns-2
 past-end c =
     let s = c .before in
     let x = s .before .before .before in
-    operand-outside (right (x .pre .0)) (x .args .a) (x .pre .2) (x .pre .3) (omega (arith, s .before .if1 .left)) (s .place .ensures) (omega (arith, c .if2 .taken, trits-is (x .pre .0)))
+    operand-outside (x .pre .0) (omega (arith, s .before .if1 .left)) (s .place .ensures) (omega (arith, c .if2 .taken, trits-is (x .pre .0 .laid)))
 
 inside : (c : tie.Else2) → let x = c .before .before .before .before in c .before .place .result + x .args .b < length (tritsOf (x .args .image .now))
-inside c = let x = c .before .before .before .before in omega (arith, c .if2 .left, c .before .place .ensures .inside, trits-is (x .pre .0))
+inside c = let x = c .before .before .before .before in omega (arith, c .if2 .left, c .before .place .ensures .inside, trits-is (x .pre .0 .laid))
 
 trit-requires : tie.Need-trit-at-requires
-trit-requires c κs = let x = c .before .before .before .before in (x .pre .0 .whole .passes, x .pre .0 .is, inside c)
+trit-requires c κs = let x = c .before .before .before .before in (x .pre .0 .laid .whole .passes, x .pre .0 .laid .is, inside c)
 
 at-zero : tie.Need-returns-3
 at-zero c =
     let s = c .before .before .before in
     let x = s .before .before .before in
-    operand-end (right (x .pre .0)) (x .args .a) (x .pre .2) (x .pre .3) (omega (arith, s .before .if1 .left)) (s .place .ensures) refl (c .before .trit-at .ensures) (c .if3 .taken)
+    operand-end (x .pre .0) (omega (arith, s .before .if1 .left)) (s .place .ensures) refl (c .before .trit-at .ensures) (c .if3 .taken)
 
 rank-requires : tie.Need-rank-requires
 rank-requires c κs =
     let e = c .before .before in
     let x = e .before .before .before .before in
-    (x .pre .0 .whole .passes, x .pre .1, x .pre .0 .is, lit< tt, omega (arith, inside e))
+    (x .pre .0 .laid .whole .passes, x .pre .1, x .pre .0 .laid .is, lit< tt, omega (arith, inside e))
 
 other-node : tie.Need-returns-4
 other-node c =
     let s = c .before .before .before .before .before in
     let x = s .before .before .before in
-    operand-other (right (x .pre .0)) (x .args .a) (x .pre .2) (x .pre .3) (omega (arith, s .before .if1 .left)) (s .place .ensures) refl (c .before .rank .ensures) (c .if4 .taken)
+    operand-other (x .pre .0) (omega (arith, s .before .if1 .left)) (s .place .ensures) refl (c .before .rank .ensures) (c .if4 .taken)
 
 edge-requires : tie.Need-edge-requires
 edge-requires c κs =
     let t = c .before .before in
     let e = t .before .before in
     let x = e .before .before .before .before in
-    (x .pre .0, x .pre .1, inside e, c .before .rank .ensures, t .before .trit-at .ensures, omega (arith, t .if3 .left))
+    (x .pre .0 .laid, x .pre .1, inside e, c .before .rank .ensures, t .before .trit-at .ensures, omega (arith, t .if3 .left))
 
 there : tie.Need-returns-5
 there c =
@@ -65,7 +65,7 @@ there c =
     let s = e .before in
     let x = s .before .before .before in
     c .edge .ensures
-    ∙ operand-there (right (x .pre .0)) (x .args .a) (x .pre .2) (x .pre .3) (omega (arith, s .before .if1 .left)) (s .place .ensures) (inside e)
+    ∙ operand-there (x .pre .0) (omega (arith, s .before .if1 .left)) (s .place .ensures) (inside e)
     (sym (q .before .rank .ensures) ∙ q .if4 .left) (λ z. t .if3 .left (t .before .trit-at .ensures ∙ z))
 
 pub operand-spec : {M : Type 1} → statement M

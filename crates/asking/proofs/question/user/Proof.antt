@@ -11,45 +11,45 @@ use Rattle.asking.proofs.question.user.Statement.{statement}
 use Rattle.asking.proofs.question.user.Tie as tie
 
 no-zeroth : tie.Need-returns
-no-zeroth c = let x = c .before .before in user-zero (right (x .pre .0)) (x .args .a) (x .pre .2) (x .pre .3) (c .if1 .taken)
+no-zeroth c = let x = c .before .before in user-zero (x .pre .0) (c .if1 .taken)
 
 root-requires : tie.Need-shadow-user-requires
-root-requires c κs = let x = c .before .before .before in (x .pre .0, x .pre .1, x .pre .2, x .pre .3, omega (arith, c .before .if1 .left))
+root-requires c κs = let x = c .before .before .before in (x .pre .0, x .pre .1, omega (arith, c .before .if1 .left))
 
 other-requires : tie.Need-shadow-user-requires-2
 other-requires c κs =
     let x = c .before .before .before .before in
-    (x .pre .0, x .pre .1, x .pre .2, x .pre .3, omega (arith, c .before .before .if1 .left, c .if3 .taken))
+    (x .pre .0, x .pre .1, omega (arith, c .before .before .if1 .left, c .if3 .taken))
 
 of-root : tie.Need-returns-2
 of-root c =
     let r = c .before in
     let x = r .before .before .before in
-    let root = le-ltb (rootCount (tritsOf (x .args .image .now))) (x .args .a) (omega (arith, r .if2 .taken, roots-is (x .pre .0))) in
-    user-shadow (right (x .pre .0)) (x .args .a) (x .pre .2) (x .pre .3) _ (c .shadow-user .ensures) (omega (arith, ap bit root))
+    let root = le-ltb (rootCount (tritsOf (x .args .image .now))) (x .args .a) (omega (arith, r .if2 .taken, roots-is (x .pre .0 .laid))) in
+    user-shadow (x .pre .0) _ (c .shadow-user .ensures) (omega (arith, ap bit root))
 
 of-other : tie.Need-returns-3
 of-other c =
     let n = c .before in
     let r = n .before in
     let x = r .before .before .before in
-    let other = lt-ltb (rootCount (tritsOf (x .args .image .now))) (x .args .a) (omega (arith, r .if2 .left, roots-is (x .pre .0))) in
-    user-shadow (right (x .pre .0)) (x .args .a) (x .pre .2) (x .pre .3) _ (c .shadow-user2 .ensures) (omega (arith, r .before .if1 .left, ap bit other))
+    let other = lt-ltb (rootCount (tritsOf (x .args .image .now))) (x .args .a) (omega (arith, r .if2 .left, roots-is (x .pre .0 .laid))) in
+    user-shadow (x .pre .0) _ (c .shadow-user2 .ensures) (omega (arith, r .before .if1 .left, ap bit other))
 
 place-requires : tie.Need-place-requires
 place-requires c κs =
     let x = c .before .before .before .before in
-    (x .pre .0, x .pre .1, lit< tt, x .pre .2, one-there (right (x .pre .0)) (x .args .a) (x .pre .2) (x .pre .3))
+    (x .pre .0 .laid, x .pre .1, lit< tt, x .pre .0 .low, one-there (x .pre .0))
 
 rank-requires : tie.Need-rank-requires
 rank-requires c κs =
     let x = c .before .before .before .before .before in
-    (x .pre .0 .whole .passes, x .pre .1, x .pre .0 .is, lit< tt, omega (arith, c .place .ensures .inside))
+    (x .pre .0 .laid .whole .passes, x .pre .1, x .pre .0 .laid .is, lit< tt, omega (arith, c .place .ensures .inside))
 
 listed-requires : tie.Need-listed-requires
 listed-requires c κs =
     let x = c .before .before .before .before .before .before in
-    omega (arith, c .rank .ensures, zeros-few (right (x .pre .0)) (c .before .place .result))
+    omega (arith, c .rank .ensures, zeros-few (right (x .pre .0 .laid)) (c .before .place .result))
 
 real : tie.Need-returns-4
 real c =
@@ -58,7 +58,7 @@ real c =
     let r = n .before in
     let x = r .before .before .before in
     c .listed .ensures
-    ∙ user-real (right (x .pre .0)) (x .args .a) (x .pre .2) (x .pre .3) (n .if3 .left) (omega (arith, r .if2 .left, roots-is (x .pre .0))) (u .before .place .ensures) (u .rank .ensures)
+    ∙ user-real (x .pre .0) (n .if3 .left) (omega (arith, r .if2 .left, roots-is (x .pre .0 .laid))) (u .before .place .ensures) (u .rank .ensures)
 
 pub user-spec : {M : Type 1} → statement M
 user-spec =
