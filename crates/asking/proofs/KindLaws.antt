@@ -103,7 +103,7 @@ module _ {trits H : List ℕ} (p : ProperTrits trits H) where
 
   -- ---- edges at a place
 
-  -- p holds a 1: the next node; a 2: the next entry of H
+  -- a 1 is the next node, a 2 the next entry of H
   pub edge-real : (q : ℕ) {o s : ℕ} → getD trits q 0 ≡ 1 → o ≡ rank 1 trits q → s ≡ 1 → says 0 (o + 1) s ≡ operandOr33 (some (edgeAt trits H q))
   unfolding edgeAt operandAt
   edge-real q e eo es = rw (eo, es, e)
@@ -182,7 +182,7 @@ module _ {image : List ℕ} {lay : Layout} {a : ℕ} (n : NodeIn image lay a) wh
   Next = nth-selected 0 trits (suc a) (omega arith) (omega (arith, zeros-ones trits (p .is-balanced)))
 
   module _ {b z : ℕ} (hb : 1 ≤ b) (Z : Selected 0 trits a z) where
-    -- no zero stands after z before next
+    -- no zero stands between z and the next
     between : z + b < next → (rank 0 trits (z + b) ≡ a) × (getD trits (z + b) 0 ≡ 0 → ⊥)
     between l =
         let from : a ≤ rank 0 trits (z + b) = omega (arith, Z .ranked, rank-here 0 trits z (Z .inside) (Z .holds), rank-mono 0 trits (suc z) (z + b) (omega arith)) in
@@ -205,16 +205,16 @@ module _ {image : List ℕ} {lay : Layout} {a : ℕ} (n : NodeIn image lay a) wh
     pub operand-outside : length trits - z ≤ b → refused 33 ≡ operandAnswer trits H a b
     operand-outside l = gone (omega (arith, Next .inside))
 
-    pub operand-end : {q t : ℕ} → q ≡ z + b → t ≡ getD trits q 0 → t ≡ 0 → refused 33 ≡ operandAnswer trits H a b
-    operand-end eq et e = missing (λ h. h .1 (ap (λ (k : ℕ). getD trits k 0) (sym eq) ∙ sym et ∙ e))
+    pub operand-end : {t : ℕ} → t ≡ getD trits (z + b) 0 → t ≡ 0 → refused 33 ≡ operandAnswer trits H a b
+    operand-end et e = missing (λ h. h .1 (sym et ∙ e))
 
-    pub operand-other : {q x : ℕ} → q ≡ z + b → x ≡ rank 0 trits q → (x ≡ a → ⊥) → refused 33 ≡ operandAnswer trits H a b
-    operand-other eq ex ne = missing (λ h. ne (ex ∙ ap (rank 0 trits) eq ∙ h .0))
+    pub operand-other : {x : ℕ} → x ≡ rank 0 trits (z + b) → (x ≡ a → ⊥) → refused 33 ≡ operandAnswer trits H a b
+    operand-other ex ne = missing (λ h. ne (ex ∙ h .0))
 
-    pub operand-there : z + b < length trits → rank 0 trits (z + b) ≡ a → (getD trits (z + b) 0 ≡ 0 → ⊥)
+    pub operand-there : rank 0 trits (z + b) ≡ a → (getD trits (z + b) 0 ≡ 0 → ⊥)
         → operandOr33 (some (edgeAt trits H (z + b))) ≡ operandAnswer trits H a b
     unfolding answer next
-    operand-there l er ne = go (decLe next (z + b))
+    operand-there er ne = go (decLe next (z + b))
       where
         go : Dec (next ≤ z + b) → operandOr33 (some (edgeAt trits H (z + b))) ≡ operandAnswer trits H a b
         go (no q) =
@@ -237,8 +237,7 @@ module _ {image : List ℕ} {lay : Layout} {a : ℕ} (n : NodeIn image lay a) wh
   uses-real eb r ek =
       rw eb (sym (kind-5 trits H a low high ∙ ap plain (omega (arith, use-count trits H p a low high, ap bit (lt-ltb (rootCount trits) a r)))))
 
-  -- kind 6
-  -- shadow use j, counted from 1
+  -- kind 6: shadow use j, counted from 1
   abbrev shadowUse : ℕ → Option Edge
   shadowUse j = numbered (useEdges trits H a) (bit (ltb (rootCount trits) a) + j)
 

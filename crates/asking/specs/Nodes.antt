@@ -1,6 +1,9 @@
--- A node of an accepted image. Assumes nothing.
-use Prim.Native.Nat.{ℕ, _≤_}
+-- What a question is about: a node of an accepted image, the place of an edge. Assumes nothing.
+use Prim.Native.Nat.{ℕ, _≤_, _<_}
+use mathlib.Core.Path.{_≡_}
 use mathlib.Core.List.{List}
+use lib.ListN.{length, getD}
+use Rattle.format.specs.Trits.{rank}
 use Rattle.format.specs.Image.{nodeCount}
 use Rattle.format.specs.Proper.{tritsOf}
 use Rattle.trits.specs.declared.Layout.{Layout}
@@ -11,3 +14,10 @@ pub record NodeIn (image : List ℕ) (lay : Layout) (a : ℕ) : Type 0 where
   pub laid : Laid image lay
   pub low : 1 ≤ a
   pub high : a ≤ nodeCount (tritsOf image)
+
+-- a 1 or a 2, t, stands at place p, and so many zeros before it
+pub record EdgePlace (trits : List ℕ) (p zeros t : ℕ) : Type 0 where
+  pub inside : p < length trits
+  pub zeros-are : zeros ≡ rank 0 trits p
+  pub trit-is : t ≡ getD trits p 0
+  pub no-zero : 0 < t

@@ -12,16 +12,15 @@ ghost use mathlib.Core.Path.{_≡_};
 ghost use mathlib.Core.Option.{some};
 ghost use Prim.Native.Nat.{_+_, _≤_, _<_};
 ghost use lib.Dec.{ltb};
-ghost use lib.ListN.{length, getD};
 ghost use Rattle.format.specs.Lists.{bit, countIn, numbered};
-ghost use Rattle.format.specs.Trits.{tryteTable, rank, Selected};
+ghost use Rattle.format.specs.Trits.{tryteTable, Selected};
 ghost use Rattle.format.specs.Image.{rootCount};
 ghost use Rattle.format.specs.Proper.{checkImage, tritsOf, shadowsOf};
 ghost use Rattle.format.specs.Edges.{edgeAt, useEdges};
 ghost use Rattle.format.specs.Question.{plain, says, operandOr33, userOr33, tritAnswer, rankAnswer, selectAnswer, operandCount, operandAnswer, useCount, useAnswer, answer};
 ghost use Rattle.format.specs.Answers.{sortNumber, answerNumbers};
 ghost use Rattle.trits.specs.Layout.{layoutOf, Laid};
-ghost use Rattle.asking.specs.Nodes.{NodeIn};
+ghost use Rattle.asking.specs.Nodes.{NodeIn, EdgePlace};
 
 // A plain value.
 fn value(x: usize) -> Answer
@@ -116,7 +115,7 @@ fn operands(image: &[u8], table: &[u8; 243], lay: Layout, a: usize, b: usize) ->
 
 // The edge at place `p`, where a 1 or a 2 stands: the next node, or the next entry of section 2.
 fn edge(image: &[u8], table: &[u8; 243], lay: Layout, p: usize, zeros: usize, t: usize) -> Answer
-    requires { ⌜ (Laid (now image) lay) × (now table ≡ tryteTable) × (p < length (tritsOf (now image))) × (zeros ≡ rank 0 (tritsOf (now image)) p) × (t ≡ getD (tritsOf (now image)) p 0) × (0 < t) ⌝ }
+    requires { ⌜ (Laid (now image) lay) × (now table ≡ tryteTable) × (EdgePlace (tritsOf (now image)) p zeros t) ⌝ }
     ensures { λ r. ⌜ answerNumbers r ≡ operandOr33 (some (edgeAt (tritsOf (now (image .entry))) (shadowsOf (now (image .entry))) p)) ⌝ }
 {
     let ones = trits::rank(image, table, lay, 1, p);

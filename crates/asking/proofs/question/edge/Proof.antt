@@ -20,15 +20,15 @@ real : tie.Need-returns
 real c =
     let s = c .before .before in
     let x = s .before .before in
-    c .listed .ensures ∙ edge-real (right (x .pre .0)) (x .args .p) (sym (x .pre .4) ∙ c .before .if1 .taken) (s .rank .ensures) (omega arith)
+    c .listed .ensures ∙ edge-real (right (x .pre .0)) (x .args .p) (sym (x .pre .2 .trit-is) ∙ c .before .if1 .taken) (s .rank .ensures) (omega arith)
 
 left : (c : tie.Else1) → let x = c .before .before .before in Twos (right (x .pre .0)) (x .args .p) (x .args .zeros) (c .before .rank .result)
-left c = let x = c .before .before .before in twos (right (x .pre .0)) (x .pre .2) (x .pre .3) (c .before .rank .ensures)
+left c = let x = c .before .before .before in twos (right (x .pre .0)) (x .pre .2 .inside) (x .pre .2 .zeros-are) (c .before .rank .ensures)
 
 two : (c : tie.Else1) → let x = c .before .before .before in getD (tritsOf (x .args .image .now)) (x .args .p) 0 ≡ 2
 two c =
     let x = c .before .before .before in
-    omega (arith, c .if1 .left, x .pre .4, x .pre .5, right (x .pre .0) .threes (x .args .p) (x .pre .2))
+    omega (arith, c .if1 .left, x .pre .2, right (x .pre .0) .threes (x .args .p) (x .pre .2 .inside))
 
 shadow-requires : tie.Need-shadow-requires
 shadow-requires c κs = (c .before .before .before .pre .0, left c .inside (two c))

@@ -1,7 +1,7 @@
 -- `question::operand` meets its contract: an operand stands before the next zero. Assumes nothing.
 use Prim.Native.Nat.{_+_, _<_}
 use native.Mathlib.Omega.{arith}
-use mathlib.Core.Path.{refl, sym, _∙_}
+use mathlib.Core.Path.{sym, _∙_}
 use lib.Dec.{lit<}
 use lib.ListN.{length}
 use Rattle.format.specs.Proper.{tritsOf}
@@ -36,7 +36,7 @@ at-zero : tie.Need-returns-3
 at-zero c =
     let s = c .before .before .before in
     let x = s .before .before .before in
-    operand-end (x .pre .0) (omega (arith, s .before .if1 .left)) (s .place .ensures) refl (c .before .trit-at .ensures) (c .if3 .taken)
+    operand-end (x .pre .0) (omega (arith, s .before .if1 .left)) (s .place .ensures) (c .before .trit-at .ensures) (c .if3 .taken)
 
 rank-requires : tie.Need-rank-requires
 rank-requires c κs =
@@ -48,14 +48,17 @@ other-node : tie.Need-returns-4
 other-node c =
     let s = c .before .before .before .before .before in
     let x = s .before .before .before in
-    operand-other (x .pre .0) (omega (arith, s .before .if1 .left)) (s .place .ensures) refl (c .before .rank .ensures) (c .if4 .taken)
+    operand-other (x .pre .0) (omega (arith, s .before .if1 .left)) (s .place .ensures) (c .before .rank .ensures) (c .if4 .taken)
 
 edge-requires : tie.Need-edge-requires
 edge-requires c κs =
     let t = c .before .before in
     let e = t .before .before in
-    let x = e .before .before .before .before in
-    (x .pre .0 .laid, x .pre .1, inside e, c .before .rank .ensures, t .before .trit-at .ensures, omega (arith, t .if3 .left))
+    let x = e .before .before .before .before in (
+      x .pre .0 .laid,
+      x .pre .1,
+      record { inside = inside e; zeros-are = c .before .rank .ensures; trit-is = t .before .trit-at .ensures; no-zero = omega (arith, t .if3 .left) },
+    )
 
 there : tie.Need-returns-5
 there c =
@@ -65,7 +68,7 @@ there c =
     let s = e .before in
     let x = s .before .before .before in
     c .edge .ensures
-    ∙ operand-there (x .pre .0) (omega (arith, s .before .if1 .left)) (s .place .ensures) (inside e)
+    ∙ operand-there (x .pre .0) (omega (arith, s .before .if1 .left)) (s .place .ensures)
     (sym (q .before .rank .ensures) ∙ q .if4 .left) (λ z. t .if3 .left (t .before .trit-at .ensures ∙ z))
 
 pub operand-spec : {M : Type 1} → statement M
