@@ -1,25 +1,30 @@
 -- Section 1's rules, as walks over its bytes and its trits see them. Assumes nothing.
 use Prim.Native.Nat.{ℕ, zero, suc, _+_, _-_, _*_, _≤_, _<_}
 use native.Mathlib.Nat.{zero-add, le-of-suc-le-suc, not-suc-le-zero}
+use native.Mathlib.Decide.{decLe}
 use native.Mathlib.Omega.{arith}
 use native.Mathlib.Numerals.{add-one}
 use mathlib.Core.Path.{_≡_, refl, sym, ap, _∙_}
 use mathlib.Core.Bool.{Bool, true, false, _&&_}
 use mathlib.Core.List.{List, [], _∷_}
-use lib.Dec.{eqb, leb}
+use lib.Dec.{eqb, leb, lit≤}
 use lib.ListN.{length, getD, drop, drop-of-length-le}
 use lib.Seq.{drop-cons, getD-take}
 use borrow.Author.Tests.{eqb-true, eqb-false, eq-eqb, ne-eqb, le-leb, leb-true}
 use borrow.Author.Count.{below-none, below-more}
-use Rattle.format.specs.Lists.{bit, every, countIn, spread, Below}
-use Rattle.format.specs.Trits.{rank, untrytes}
+use Rattle.format.specs.Lists.{bit, every, countIn, spread, up, Below}
+use Rattle.format.specs.Trits.{rank, untrytes, tryteCount}
 use Rattle.format.specs.Image.{untilZero, nodeCount, rootCount, edgeCount}
-use Rattle.format.specs.Proper.{rootsFirst, balanced, grown, limits, contentsFault1, OwnRules}
+use Rattle.format.specs.Proper.{bytesLow, padded, rootsFirst, balanced, grown, limits, contentsFault1, OwnRules}
 use Rattle.format.proofs.Laws.{both-true, true-both, getD-other, count-three, count-le, rank-zero, rank-suc, rank-mono, rank-past, rank-here, rank-hit, rank-miss, rank-count, rank-le, rank-three}
-use Rattle.format.proofs.CheckLaws.{contents-1-gives, limits-nodes, trits-untrytes}
+use Rattle.format.proofs.CheckLaws.{contents-1-gives, limits-nodes, length-untrytes, trits-untrytes, trytes-untrytes}
 use Rattle.format.proofs.EdgeLaws.{lt-of-rank}
 use Rattle.format.proofs.Sums.{roots-nodes}
 use Rattle.format.proofs.ProperLaws.{zeros-ones, last-zero, grown-walk, walk-grown}
+use Rattle.trits.specs.Search.{Tryte}
+use Rattle.trits.proofs.Trytes.{count-few, rank-more}
+use Rattle.samples.specs.Lent.{TritsIn}
+use Rattle.proper.specs.FirstSays.{Ballot}
 
 -- ---- a test over what is left of a list
 
@@ -45,6 +50,14 @@ trit-of l bs p x h e = getD-take l (spread 3 5 bs) p 0 h ∙ sym e
 -- one trit more
 pub rank-turn : (t : ℕ) (xs : List ℕ) (p x n d : ℕ) → p < length xs → getD xs p 0 ≡ x → n ≡ rank t xs p → d ≡ bit (eqb x t) → n + d ≡ rank t xs (p + 1)
 rank-turn t xs p x n d h ex en ed = rw add-one (omega (arith, rank-suc t xs p h, ap (λ (y : ℕ). bit (eqb y t)) ex))
+
+-- bytes below 243 with zero padding are the trytes of their trits
+pub tryted : {l : ℕ} {bs : List ℕ} → length bs ≡ up l 5 → l ≤ 125536 → bytesLow bs ≡ true → padded l bs ≡ true → TritsIn (untrytes l bs) bs
+tryted {l} {bs} long few low pad = record {
+  threes = trits-untrytes l bs;
+  few = omega (arith, length-untrytes l bs long);
+  trytes-are = sym (trytes-untrytes l bs long low pad);
+}
 
 -- ---- the roots: ones only, up to the first zero
 
@@ -85,12 +98,6 @@ module _ {trits : List ℕ} {p : ℕ} (o : OnesOnly trits p) where
 
 -- ---- the nodes: no fewer ones than zeros before any trit, and one fewer before the end
 
-pub record Ballot (trits : List ℕ) (p zeros ones : ℕ) : Type 0 where
-  pub inside : p ≤ length trits
-  pub zeros-are : zeros ≡ rank 0 trits p
-  pub ones-are : ones ≡ rank 1 trits p
-  pub enough : (q : ℕ) → q < p → rank 0 trits q ≤ rank 1 trits q
-
 pub ballot-none : (trits : List ℕ) → Ballot trits 0 0 0
 ballot-none trits = record {
   inside = omega arith;
@@ -111,6 +118,21 @@ module _ {trits : List ℕ} {p zeros ones : ℕ} (b : Ballot trits p zeros ones)
     ones-are = rank-turn 1 trits p x ones o h ex (b .ones-are) eo;
     enough = below-more (λ q. rank 0 trits q ≤ rank 1 trits q) p (b .enough) (omega (arith, b .zeros-are, b .ones-are));
   }
+
+  -- a whole tryte more, before which the ones are five more than the zeros
+  pub ballot-tryte : {q x z o : ℕ} → Tryte trits q x → p ≡ 5 * q → p + 5 ≤ length trits → zeros + 5 ≤ ones → z ≡ tryteCount 0 x 5 → o ≡ tryteCount 1 x 5
+      → Ballot trits (p + 5) (zeros + z) (ones + o)
+  ballot-tryte {q} {x} {z} {o} T e h le ez eo =
+      let on : (t : ℕ) → rank t trits (p + 5) ≡ rank t trits p + tryteCount t x 5 = λ t. rw e (rank-more T t 5 (lit≤ tt) (omega arith)) in
+      record {
+        inside = h;
+        zeros-are = omega (arith, b .zeros-are, on 0);
+        ones-are = omega (arith, b .ones-are, on 1);
+        enough = λ r l. elim (decLe p r) [
+          | yes y ↦ omega (arith, rank-mono 0 trits r (p + 5) (omega arith), on 0, count-few 0 x 5, b .zeros-are, b .ones-are, rank-mono 1 trits p r y)
+          | no y ↦ b .enough r (omega arith)
+        ];
+      }
 
 -- the last zero is the last trit
 zeros-before : (trits : List ℕ) (p : ℕ) → balanced trits ≡ true → p < length trits → rank 0 trits p ≤ countIn 1 trits

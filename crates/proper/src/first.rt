@@ -2,15 +2,19 @@
 use format::MAX_EDGES;
 use format::MAX_NODES;
 use format::Refusal;
+use little::wide;
 use trits::trit;
+use trits::tryte_count;
 ghost use mathlib.Core.Path.{_≡_};
-ghost use Prim.Native.Nat.{_≤_};
+ghost use mathlib.Core.Bool.{true};
+ghost use Prim.Native.Nat.{_+_, _≤_, _<_};
 ghost use lib.Dec.{eqb};
 ghost use lib.ListN.{length};
 ghost use Rattle.format.specs.Lists.{bit, up};
-ghost use Rattle.format.specs.Trits.{untrytes};
+ghost use Rattle.format.specs.Trits.{untrytes, tryteTable};
 ghost use Rattle.format.specs.Proper.{bytesLow, padded};
-ghost use Rattle.proper.specs.FirstSays.{FirstSays, RootsSay, NodesSay};
+ghost use Rattle.samples.specs.Lent.{TritsIn};
+ghost use Rattle.proper.specs.FirstSays.{FirstSays, RootsSay, NodesSay, Ballot, Balloted};
 
 // The sizes that section 1 gives, or its refusal.
 pub enum First {
@@ -26,6 +30,13 @@ pub enum First {
 pub enum Given {
     Number(usize),
     Broken,
+}
+
+// A place, and the zeros and ones before it.
+struct Count {
+    zeros: usize,
+    ones: usize,
+    p: usize,
 }
 
 // 1 where the two are the same, else 0.
@@ -85,24 +96,67 @@ fn roots_given(bs: &[u8], l: usize) -> Given
     Given::Broken
 }
 
+// One trit on.
+fn trit_on(bs: &[u8], l: usize, c: Count) -> Count
+    requires { ⌜ TritsIn (untrytes l (now bs)) (now bs) × Balloted l (now bs) c ⌝ }
+    ensures { λ r. ⌜ (r .p ≡ c .p + 1) × Ballot (untrytes l (now (bs .entry))) (r .p) (r .zeros) (r .ones) ⌝ }
+{
+    let p = c.p;
+    let t = trit(bs, p);
+    let zeros = c.zeros + one_if(t, 0);
+    let ones = c.ones + one_if(t, 1);
+    Count {
+        zeros,
+        ones,
+        p: p + 1,
+    }
+}
+
+// A whole tryte on where none of its zeros can come too early, else one trit.
+fn onward(bs: &[u8], table: &[u8; 243], l: usize, c: Count) -> Count
+    requires { ⌜ (now table ≡ tryteTable) × TritsIn (untrytes l (now bs)) (now bs) × Balloted l (now bs) c ⌝ }
+    ensures { λ r. ⌜ (c .p < r .p) × Ballot (untrytes l (now (bs .entry))) (r .p) (r .zeros) (r .ones) ⌝ }
+{
+    let p = c.p;
+    let q = p / 5;
+    if c.ones < c.zeros + 5 {
+        return trit_on(bs, l, c);
+    }
+    if l < p + 5 {
+        return trit_on(bs, l, c);
+    }
+    if p != 5 * q {
+        return trit_on(bs, l, c);
+    }
+    let x = wide(bs[q]);
+    let zeros = c.zeros + tryte_count(table, x, 0);
+    let ones = c.ones + tryte_count(table, x, 1);
+    Count {
+        zeros,
+        ones,
+        p: p + 5,
+    }
+}
+
 // The number of nodes: the ones. While trits follow, the zeros are no more than the ones; at the end they are one more.
-fn nodes_given(bs: &[u8], l: usize) -> Given
-    requires { ⌜ (length (now bs) ≡ up l 5) × (l ≤ 125536) ⌝ }
+fn nodes_given(bs: &[u8], table: &[u8; 243], l: usize) -> Given
+    requires { ⌜ (length (now bs) ≡ up l 5) × (l ≤ 125536) × (now table ≡ tryteTable)
+        × (bytesLow (now bs) ≡ true) × (padded l (now bs) ≡ true) ⌝ }
     ensures { λ r. ⌜ NodesSay (untrytes l (now (bs .entry))) r ⌝ }
 {
-    let mut zeros: usize = 0;
-    let mut ones: usize = 0;
-    let mut p = 0;
-    while p < l {
-        if ones < zeros {
+    let mut c = Count {
+        zeros: 0,
+        ones: 0,
+        p: 0,
+    };
+    while c.p < l {
+        if c.ones < c.zeros {
             return Given::Broken;
         }
-        let t = trit(bs, p);
-        zeros += one_if(t, 0);
-        ones += one_if(t, 1);
-        p += 1;
+        c = onward(bs, table, l, c);
     }
-    if ones + 1 == zeros {
+    let ones = c.ones;
+    if ones + 1 == c.zeros {
         return Given::Number(ones);
     }
     Given::Broken
@@ -122,7 +176,8 @@ pub fn section1(bs: &[u8], l: usize) -> First
     let Given::Number(roots) = roots_given(bs, l) else {
         return First::Wrong(Refusal::TritsWrong);
     };
-    let Given::Number(nodes) = nodes_given(bs, l) else {
+    let table = trits::tryte_table();
+    let Given::Number(nodes) = nodes_given(bs, &table, l) else {
         return First::Wrong(Refusal::TritsWrong);
     };
     if nodes > MAX_NODES {
