@@ -122,3 +122,77 @@ pub fn wild(n: usize, m: usize, c: usize, rng: &mut Xorshift) -> Graph {
     roots.truncate(c);
     Graph { operands, roots }
 }
+
+/// Graphs with just L trits: loops, roots with a shared operand, and random.
+pub fn of_length(l: usize, rng: &mut Xorshift) -> Vec<Graph> {
+    let mut list = Vec::new();
+    if (3..=MOST_EDGES + 3).contains(&l) {
+        list.push(loops(l - 3));
+    }
+    // n roots and m edges, as many nodes as there may be.
+    let n = ((l - 1) / 2).min(MOST_NODES);
+    let m = l - 1 - 2 * n;
+    if n > 0 && m <= MOST_EDGES {
+        list.push(used_by_all(n, m));
+    }
+    if l >= 3 {
+        let n = 1 + rng.below(n);
+        let c = (1 + rng.below(n)).max((l - 1 - n).saturating_sub(MOST_EDGES));
+        if c <= n {
+            list.push(random(n, l - 1 - n - c, c, rng));
+        }
+    }
+    list
+}
+
+/// All small L, so that multiples of 5, 25 and 275 are met and missed, and some
+/// near 65,725 and near the limit.
+pub fn lengths() -> impl Iterator<Item = usize> {
+    let near = |l: usize| l - 2..=l + 2;
+    (1..=1_150)
+        .chain(near(65_450))
+        .chain(near(65_525))
+        .chain(65_698..=65_702)
+        .chain(65_720..=65_730)
+        .chain(near(65_750))
+        .chain(near(66_000))
+        .chain([125_525, 125_534, 125_535, 125_536])
+}
+
+/// The largest graphs of many shapes.
+pub fn largest(rng: &mut Xorshift) -> Vec<Graph> {
+    let mut star = chain(30_000);
+    star.operands = vec![Vec::new(); 30_000];
+    star.operands[0] = (2..=30_000).collect();
+    let mut cycle = chain(30_000);
+    cycle.operands[29_999].push(1);
+    let turned: Vec<usize> = (1..=30_000).rev().collect();
+    let back = renumber(&chain(30_000), &turned); // last node first
+    let mut doubled = chain(30_000);
+    for list in &mut doubled.operands {
+        list.extend_from_within(..);
+    }
+    let mut to_last = chain(2); // node 2 used 65,535 times by node 1
+    to_last.operands[0] = vec![2; 65_535];
+    let mut reversed_roots = all_roots(30_000);
+    reversed_roots.roots.reverse();
+    vec![
+        chain(30_000),
+        back,
+        cycle,
+        doubled,
+        star,
+        all_roots(30_000),
+        reversed_roots,
+        loops(65_535),
+        to_last,
+        used_by_all(30_000, 65_535),
+        used_by_all(30_000, 30_000),
+        used_by_all(64, 65_535),
+        random(30_000, 65_535, 1, rng),
+        random(30_000, 65_535, 30_000, rng),
+        random(30_000, 30_100, 1, rng),
+        random(29_953, 65_000, 5_000, rng),
+        random(300, 65_535, 7, rng),
+    ]
+}

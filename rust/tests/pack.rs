@@ -418,43 +418,11 @@ fn random_graphs(cases: &mut Cases) {
     }
 }
 
-/// Graphs with just L trits: loops, roots with a shared operand, and random.
-fn of_length(l: usize, rng: &mut Xorshift) -> Vec<Graph> {
-    let mut list = Vec::new();
-    if (3..=MOST_EDGES + 3).contains(&l) {
-        list.push(make::loops(l - 3));
-    }
-    // n roots and m edges, as many nodes as there may be.
-    let n = ((l - 1) / 2).min(MOST_NODES);
-    let m = l - 1 - 2 * n;
-    if n > 0 && m <= MOST_EDGES {
-        list.push(make::used_by_all(n, m));
-    }
-    if l >= 3 {
-        let n = 1 + rng.below(n);
-        let c = (1 + rng.below(n)).max((l - 1 - n).saturating_sub(MOST_EDGES));
-        if c <= n {
-            list.push(make::random(n, l - 1 - n - c, c, rng));
-        }
-    }
-    list
-}
-
-/// All small lengths, so that multiples of 5, 25 and 275 are met and missed,
-/// and lengths near 65,725 and near the limit.
+/// Graphs of many lengths.
 fn lengths(cases: &mut Cases) {
     let mut rng = Xorshift::new(13);
-    let near = |l: usize| l - 2..=l + 2;
-    let all = (1..=1_150)
-        .chain(near(65_450))
-        .chain(near(65_525))
-        .chain(65_698..=65_702)
-        .chain(65_720..=65_730)
-        .chain(near(65_750))
-        .chain(near(66_000))
-        .chain([125_525, 125_534, 125_535, 125_536]);
-    for l in all {
-        for graph in of_length(l, &mut rng) {
+    for l in make::lengths() {
+        for graph in make::of_length(l, &mut rng) {
             assert_eq!(cases.accepted(&graph).trits.len(), l);
         }
     }
@@ -463,42 +431,7 @@ fn lengths(cases: &mut Cases) {
 /// The largest tables of many shapes, with room one too short and enough.
 fn large(cases: &mut Cases) {
     let rng = &mut Xorshift::new(17);
-    let mut star = make::chain(30_000);
-    star.operands = vec![Vec::new(); 30_000];
-    star.operands[0] = (2..=30_000).collect();
-    let mut cycle = make::chain(30_000);
-    cycle.operands[29_999].push(1);
-    let mut back = make::chain(30_000); // last node first
-    let turned: Vec<usize> = (1..=30_000).rev().collect();
-    back = make::renumber(&back, &turned);
-    let mut doubled = make::chain(30_000);
-    for list in &mut doubled.operands {
-        list.extend_from_within(..);
-    }
-    let mut to_last = make::chain(2); // node 2 used 65,535 times by node 1
-    to_last.operands[0] = vec![2; 65_535];
-    let mut reversed_roots = make::all_roots(30_000);
-    reversed_roots.roots.reverse();
-    let graphs = [
-        make::chain(30_000),
-        back,
-        cycle,
-        doubled,
-        star,
-        make::all_roots(30_000),
-        reversed_roots,
-        make::loops(65_535),
-        to_last,
-        make::used_by_all(30_000, 65_535),
-        make::used_by_all(30_000, 30_000),
-        make::used_by_all(64, 65_535),
-        make::random(30_000, 65_535, 1, rng),
-        make::random(30_000, 65_535, 30_000, rng),
-        make::random(30_000, 30_100, 1, rng),
-        make::random(29_953, 65_000, 5_000, rng),
-        make::random(300, 65_535, 7, rng),
-    ];
-    for graph in &graphs {
+    for graph in &make::largest(rng) {
         let table = graph.table();
         let room = need(&table);
         cases.few_rooms(&table);
