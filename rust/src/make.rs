@@ -174,6 +174,8 @@ pub fn largest(rng: &mut Xorshift) -> Vec<Graph> {
     }
     let mut to_last = chain(2); // node 2 used 65,535 times by node 1
     to_last.operands[0] = vec![2; 65_535];
+    let mut late = chain(2); // node 1 uses itself, then node 2
+    late.operands[0].splice(..0, vec![1; 65_534]);
     let mut reversed_roots = all_roots(30_000);
     reversed_roots.roots.reverse();
     vec![
@@ -186,6 +188,7 @@ pub fn largest(rng: &mut Xorshift) -> Vec<Graph> {
         reversed_roots,
         loops(65_535),
         to_last,
+        late,
         used_by_all(30_000, 65_535),
         used_by_all(30_000, 30_000),
         used_by_all(64, 65_535),
