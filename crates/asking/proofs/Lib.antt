@@ -2,3 +2,4 @@
 pub mod EntryLaws
 pub mod MarkedLaws
 pub mod KindLaws
+pub mod BatchTurns
