@@ -104,6 +104,10 @@ module _ (image questions : List ℕ) (threes : length questions % 3 ≡ 0) wher
   pub found-few : (k : ℕ) → k ≡ good (replies image questions) → k ≤ length questions / 3
   found-few k e = omega (arith, e, good-le (replies image questions), replies-length)
 
+pub tally-is : (t : Tally) (q k asked answered refused : ℕ) → asked ≡ t .asked + q → answered ≡ t .answered + k → refused ≡ t .refused + (q - k)
+    → record { asked = asked; answered = answered; refused = refused } ≡ counted t q k
+tally-is t q k asked answered refused ea eb ec = λ i. record { asked = ea i; answered = eb i; refused = ec i }
+
 -- ---- the outcome
 
 module _ (image questions buffer : List ℕ) (t : Tally) (threes : length questions % 3 ≡ 0) (room : length questions ≤ length buffer)

@@ -137,10 +137,11 @@ fn count(tally: Tally, q: usize, found: usize) -> Tally
     let asked = tally.asked;
     let answered = tally.answered;
     let refused = tally.refused;
+    let missed = q - found;
     Tally {
         asked: asked + q as u32,
         answered: answered + found as u32,
-        refused: refused + (q - found) as u32,
+        refused: refused + missed as u32,
     }
 }
 

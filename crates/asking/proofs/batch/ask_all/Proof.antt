@@ -1,7 +1,8 @@
 -- `batch::ask_all` meets its contract: after i turns the first i answers stand in the buffer. Assumes nothing.
-use Prim.Native.Nat.{_+_, _-_}
+use Prim.Native.Nat.{_+_, _-_, _*_}
 use native.Mathlib.Omega.{arith}
-use Rattle.asking.specs.BatchSteps.{replies}
+use mathlib.Core.Path.{_≡_}
+use Rattle.asking.specs.BatchSteps.{replies, replyAt, goodOne}
 use Rattle.asking.proofs.BatchTurns.{Answered, answered-none, answered-length, answered-few, answered-next, answered-all, replies-length, reply-at}
 use Rattle.asking.proofs.batch.ask_all.Statement.{statement}
 use Rattle.asking.proofs.batch.ask_all.Tie as tie
@@ -33,8 +34,9 @@ turn c =
     let x = t .before .before .before .before .before in
     let image = x .args .image .now in
     let questions = x .args .questions .now in
+    let good : c .ask-one .result ≡ goodOne (replyAt image questions (3 * l .i)) = c .ask-one .ensures .0 in
     answered-next (l .inv) (omega (arith, t .loop-test .taken, replies-length image questions (x .pre .3))) _ (reply-at image questions (x .pre .3) (l .i) (t .loop-test .taken))
-    _ (c .ask-one .ensures .0) _ (c .ask-one .ensures .1)
+    _ good _ (c .ask-one .ensures .1)
 
 returns : tie.Need-returns Inv-loop μ-loop
 returns c =
