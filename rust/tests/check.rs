@@ -309,6 +309,17 @@ impl Cases {
                     let refusal = self.whole(&with(&image.bytes, at, width, new));
                     assert!(refusal == 25 || refusal == 24 && index == 1);
                 }
+                // Exchanged with its neighbour; 1 taken from the neighbour.
+                if entry ^ 1 < numbers {
+                    let beside = start + width * (entry ^ 1);
+                    let other = number(&image.bytes, beside, width);
+                    let moved = (old.wrapping_add(1), other.wrapping_sub(1));
+                    for (new, left) in [(other, old), moved] {
+                        let mut bytes = with(&image.bytes, at, width, new);
+                        put(&mut bytes, beside, width, left);
+                        self.whole(&bytes);
+                    }
+                }
             }
         }
     }
