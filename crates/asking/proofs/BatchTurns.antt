@@ -12,10 +12,11 @@ use borrow.Author.Tests.{ne-eqb}
 use Rattle.format.specs.Lists.{bit, over}
 use Rattle.format.specs.Proper.{checkImage, tritsOf, shadowsOf}
 use Rattle.format.specs.Question.{Reply, refused, plain}
-use Rattle.format.specs.Answers.{refusalNumber}
+use Rattle.format.specs.Answers.{refusalNumber, askedNumber}
 use Rattle.format.specs.Batch.{threeWords, good, BatchOutcome, batchOutcome, batchLeaves, TallyRoom}
 use Rattle.format.specs.declared.Refusal.{Refusal}
 use Rattle.format.specs.declared.Tally.{Tally}
+use Rattle.format.specs.declared.Asked.{Asked}
 use Rattle.format.specs.declared.Asked.the-variants as asked
 use Rattle.format.proofs.OneToOne.{refusal-some}
 use Rattle.format.proofs.Outcomes.{length-over}
@@ -124,3 +125,7 @@ module _ (image questions buffer : List ℕ) (t : Tally) (threes : length questi
       batch-ran image questions buffer t (runs-batch image questions buffer t (record { threes = threes; buffer-room = room; tally-room = tally; proper = h }))
       ∙ (λ i. record { code = 0; words = sym ep i; tally = counted t (replies-length image questions threes i) (sym ek i) })
       ∙ (λ i. record { code = 0; words = put; tally = sym ea i })
+
+pub as-number : {o : BatchOutcome} (a : Asked) {words : List ℕ} {after : Tally} {k : ℕ} → o ≡ batchLeaves a words after → askedNumber a ≡ k
+    → o ≡ record { code = k; words = words; tally = after }
+as-number a {words} {after} e told = e ∙ (λ i. record { code = told i; words = words; tally = after })

@@ -25,6 +25,12 @@ pub struct Batched {
     pub tally: format::Tally,
 }
 
+// The same, with the answer as its number.
+pub struct Done {
+    pub code: u32,
+    pub tally: format::Tally,
+}
+
 // ---- one question
 
 // Puts three words from `at` on.
@@ -195,5 +201,25 @@ pub fn batch(image: &[u8], questions: &[u32], answers: &mut [u32], tally: format
     Batched {
         asked: Asked::Refused(Refusal::TallyFull),
         tally,
+    }
+}
+
+// A batch, answered by a number: 0, or a refusal from 41 to 43 or 21 to 26.
+pub fn ask(image: &[u8], questions: &[u32], answers: &mut [u32], tally: format::Tally) -> Done
+    ensures { λ r. ⌜ batchOutcome (now (image .entry)) (now (questions .entry)) (now (answers .entry)) tally
+        ≡ record { code = r .code; words = now (answers .exit); tally = r .tally } ⌝ }
+{
+    let done = batch(image, questions, answers, tally);
+    let asked = done.asked;
+    let left = done.tally;
+    match asked {
+        Asked::Ran => Done {
+            code: 0,
+            tally: left,
+        },
+        Asked::Refused(f) => {
+            let code = format::number(f);
+            Done { code, tally: left }
+        }
     }
 }
