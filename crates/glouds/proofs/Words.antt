@@ -14,8 +14,8 @@ use Rattle.glouds.specs.Exports.{asWord, packExport, packExported, unpac
 pub length-word : (n : Numbers) (size : ℕ) → n ≡ done size → asWord n ≡ size
 length-word n size e = ap asWord e ∙ omega arith
 
-pub refused-word : (n : Numbers) (f : Refusal) (k : ℕ) → n ≡ stops (refusalNumber f) → k ≡ refusalNumber f → asWord n ≡ 4294967296 * k
-refused-word n f k e number = ap asWord e ∙ omega (arith, number)
+pub refused-word : (n : Numbers) (f : Refusal) (x : ℕ) → n ≡ stops (refusalNumber f) → x ≡ 4294967296 * refusalNumber f → asWord n ≡ x
+refused-word n f x e word = ap asWord e ∙ omega (arith, word)
 
 pub pack-word : {o : PackOutcome} (r : Packed) {order work image : List ℕ} → o ≡ packLeaves r order work image → {x : ℕ} → asWord (packedNumbers r) ≡ x
     → packExport o ≡ packExported x order work image

@@ -1,10 +1,20 @@
 // The entries as C and Rust call them. A slice is a pointer and a length in elements; an answer of two numbers is one word,
 // refusal * 2^32 + value. The proofs assume that lent slices lie apart; one of length 0 may have a dangling pointer.
 ghost use mathlib.Core.Path.{_≡_};
+ghost use Prim.Native.Nat.{_*_};
+ghost use Rattle.format.specs.Answers.{refusalNumber};
 ghost use Rattle.format.specs.Packing.{packOutcome};
 ghost use Rattle.format.specs.Proper.{checkImage};
 ghost use Rattle.format.specs.Unpack.{unpackOutcome};
 ghost use Rattle.glouds.specs.Exports.{packExport, packExported, unpackExport, unpackExported};
+
+// A refusal as a word.
+fn refused(r: format::Refusal) -> u64
+    ensures { λ k. ⌜ k ≡ 4294967296 * refusalNumber r ⌝ }
+{
+    let number = format::number(r);
+    4294967296 * (number as u64)
+}
 
 // Packs a table: the image's length, or a refusal from 1 to 9.
 #[no_mangle]
@@ -19,10 +29,7 @@ pub extern "C" fn glouds_pack(
 {
     match packing::pack::pack(table, order, work, image) {
         format::Packed::Image(size) => size as u64,
-        format::Packed::Refused(r) => {
-            let number = format::number(r);
-            4294967296 * (number as u64)
-        }
+        format::Packed::Refused(r) => refused(r),
     }
 }
 
@@ -44,9 +51,6 @@ pub extern "C" fn glouds_unpack(image: &[u8], table: &mut [u16]) -> u64
 {
     match unpacking::unpack(image, table) {
         format::Unpacked::Table(size) => size as u64,
-        format::Unpacked::Refused(r) => {
-            let number = format::number(r);
-            4294967296 * (number as u64)
-        }
+        format::Unpacked::Refused(r) => refused(r),
     }
 }

@@ -16,11 +16,11 @@ returns-2 : tie.Need-returns-2
 returns-2 c =
     let chosen = c .before .before .before .before .before .before in
     let packed = chosen .before .before .before .before in
-    pack-word (packed .pack .result) (packed .pack .ensures) (refused-word _ (c .before .before .r .given .0 .0) _ (ap packedNumbers (c .before .before .r .given .1)) (c .number .ensures))
+    pack-word (packed .pack .result) (packed .pack .ensures) (refused-word _ (c .before .before .r .given .0 .0) _ (ap packedNumbers (c .before .before .r .given .1)) (c .refused .ensures))
 
 pub glouds-pack-spec : {M : Type 1} → statement M
 glouds-pack-spec =
     tie.close
     (tie.spec
     (λ c κs. search needs) (λ c. search needs) (λ c. search needs) (λ c κs. search needs) (λ c. search needs) (λ c. search needs) (λ c. search needs)
-    (λ c. search needs) (λ c. search needs) returns (λ c. search needs) (λ c. search needs) (λ c. search needs) returns-2)
+    returns (λ c. search needs) (λ c. search needs) (λ c. search needs) returns-2)

@@ -15,11 +15,10 @@ returns-2 : tie.Need-returns-2
 returns-2 c =
     let told = c .before .before in
     let unpacked = told .before .before .before .before in
-    unpack-word (unpacked .unpack .result) (unpacked .unpack .ensures) (refused-word _ (told .r .given .0 .0) _ (ap unpackedNumbers (told .r .given .1)) (c .number .ensures))
+    unpack-word (unpacked .unpack .result) (unpacked .unpack .ensures) (refused-word _ (told .r .given .0 .0) _ (ap unpackedNumbers (told .r .given .1)) (c .refused .ensures))
 
 pub glouds-unpack-spec : {M : Type 1} → statement M
 glouds-unpack-spec =
     tie.close
     (tie.spec
-    (λ c κs. search needs) (λ c. search needs) (λ c. search needs) (λ c κs. search needs) (λ c. search needs) (λ c. search needs)
-    (λ c. search needs) returns (λ c. search needs) returns-2)
+    (λ c κs. search needs) (λ c. search needs) (λ c. search needs) (λ c κs. search needs) (λ c. search needs) returns (λ c. search needs) returns-2)
