@@ -1,12 +1,12 @@
 -- The counts and sizes that code has for sections 3 to 9 are those of the definitions. Assumes nothing.
 use Prim.Native.Nat.{ℕ, _+_, _*_, _/_, _≤_, _<_}
 use native.Mathlib.Omega.{arith}
-use mathlib.Core.Path.{_≡_, refl, sym, ap, _∙_, subst}
+use mathlib.Core.Path.{_≡_, refl, sym, ap, _∙_}
 use mathlib.Core.List.{List, _∷_}
 use lib.Dec.{lit<}
 use lib.ListN.{length}
 use Rattle.format.specs.Lists.{run, countIn, up}
-use Rattle.format.specs.Image.{bytes, nodeCount, grouped, marked, markedNodes, markWords, starts, markSamples, pairs, lastMultiple, Section, section3, section4, section5, section6, section7, section8, section9}
+use Rattle.format.specs.Image.{bytes, nodeCount, grouped, marked, markedNodes, markWords, starts, markSamples, lastMultiple, Section, section3, section4, section5, section6, section7, section8, section9}
 use Rattle.format.specs.Proper.{restOf, givenFault, checkGiven, ProperTrits}
 use Rattle.format.specs.Answers.{refusalNumber}
 use Rattle.format.specs.declared.Refusal.{Refusal}

@@ -1,35 +1,35 @@
 -- Sections 1 and 2: what their faults make of the whole, and what is known once they have passed. Assumes nothing.
-use Prim.Native.Nat.{ℕ, _+_, _*_, _≤_, _<_}
+use Prim.Native.Nat.{ℕ, _*_, _≤_, _<_}
 use native.Mathlib.Omega.{arith}
 use mathlib.Core.Path.{_≡_, sym, ap, _∙_}
 use mathlib.Core.Bool.{Bool, true, false}
 use mathlib.Core.List.{List}
-use lib.Dec.{eqb, leb, lit<}
-use lib.ListN.{length, drop, length-drop}
+use lib.Dec.{leb, lit<}
+use lib.ListN.{length}
 use borrow.Author.Tests.{leb-true}
 use Rattle.format.specs.Faults.{fault, _then_}
 use Rattle.format.specs.Lists.{countIn, up, Below}
 use Rattle.format.specs.Trits.{untrytes}
-use Rattle.format.specs.Image.{fromBytes, nodeCount, rootCount, edgeCount, markedNodes, given}
-use Rattle.format.specs.Proper.{bytesLow, padded, rootsFirst, balanced, grown, limits, shadowsSeen, countOf, contentsOf, restOf, size1, tritsOf, after1, contentsFault1, fault1, fault2, shadowsOf, after2, checkGiven, checkImage, ProperTrits}
+use Rattle.format.specs.Image.{fromBytes, nodeCount, edgeCount, given}
+use Rattle.format.specs.Proper.{bytesLow, padded, rootsFirst, balanced, grown, limits, shadowsSeen, contentsOf, restOf, size1, tritsOf, after1, contentsFault1, fault1, fault2, shadowsOf, after2, checkGiven, checkImage, ProperTrits}
 use Rattle.format.specs.Answers.{refusalNumber}
 use Rattle.format.specs.declared.Refusal.{Refusal}
 use Rattle.format.proofs.FaultLaws.{then-yes, then-no, then-zero, then-assoc, fault-zero}
 use Rattle.format.proofs.Laws.{both-true}
 use Rattle.format.proofs.Digits.{length-gather, up-mul}
-use Rattle.format.proofs.CheckLaws.{bytes-fromBytes, length-untrytes, trits-untrytes, trytes-untrytes, section-missing, limits-nodes}
+use Rattle.format.proofs.CheckLaws.{bytes-fromBytes, length-untrytes, trits-untrytes, trytes-untrytes, section-missing}
 use Rattle.format.proofs.Sums.{roots-nodes, edges-shadows}
 use Rattle.format.proofs.Steps.{checker-gives}
 use Rattle.format.proofs.OneToOne.{refusal-some}
 use Rattle.samples.specs.Lent.{TritsIn}
 use Rattle.trits.specs.declared.Layout.{Layout}
-use Rattle.trits.specs.Layout.{layout, layoutOf}
+use Rattle.trits.specs.Layout.{layoutOf}
 use Rattle.proper.specs.declared.check.Examined.{Examined}
 use Rattle.proper.specs.declared.check.Examined.the-variants.{Proper, Refused}
 use Rattle.proper.specs.declared.first.First.the-variants.{Sizes}
 use Rattle.proper.specs.FirstSays.{FirstSays}
 use Rattle.proper.specs.Known.{Known}
-use Rattle.proper.specs.Examined.{Examines, opens, shadows2, check2, Sized, FirstPassed, laying}
+use Rattle.proper.specs.Examined.{Examines, opens, shadows2, check2, FirstPassed, laying}
 use Rattle.proper.proofs.OpenLaws.{opens-then}
 
 pub examines-as : {x y : ℕ} {u v : Layout} (r : Examined) → x ≡ y → u ≡ v → Examines x u r → Examines y v r

@@ -1,13 +1,12 @@
 -- `check::examine` meets its contract: section 1's faults, or what sections 2 to 9 give. Assumes nothing.
-use Prim.Native.Nat.{ℕ, _+_, _*_, _≤_, _<_}
+use Prim.Native.Nat.{ℕ, _≤_}
 use native.Mathlib.Omega.{arith}
 use mathlib.Core.Path.{_≡_, sym, ap, _∙_, subst}
-use mathlib.Core.List.{List}
 use borrow.Author.Needs.{needs}
-use lib.ListN.{length, drop, length-drop}
+use lib.ListN.{length-drop}
 use Rattle.format.specs.Lists.{up}
 use Rattle.format.specs.Trits.{untrytes}
-use Rattle.format.specs.Proper.{countOf, contentsOf, restOf, size1, tritsOf, after1, contentsFault1, fault1, SectionGives}
+use Rattle.format.specs.Proper.{countOf, contentsOf, restOf, size1, tritsOf, contentsFault1, fault1, SectionGives}
 use Rattle.format.specs.declared.Refusal.the-variants.{ImageEnds, ImageTooLarge, TritsWrong}
 use Rattle.format.proofs.Steps.{checker-gives}
 use Rattle.proper.specs.FirstSays.{FirstSays}

@@ -8,7 +8,7 @@ use borrow.Author.Needs.{needs}
 use lib.ListN.{length}
 use Rattle.format.specs.Faults.{fault}
 use Rattle.format.specs.Lists.{up, same}
-use Rattle.format.specs.Image.{bytes, nodeCount, markWords, given, section3}
+use Rattle.format.specs.Image.{bytes, markWords, given, section3}
 use Rattle.format.specs.Proper.{givenFault, checkGiven}
 use Rattle.format.specs.Answers.{checkedNumber}
 use Rattle.format.specs.declared.Refusal.the-variants.{IndexWrong}

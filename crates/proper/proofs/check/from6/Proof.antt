@@ -8,11 +8,10 @@ use lib.ListN.{length}
 use Rattle.format.specs.Image.{given}
 use Rattle.format.specs.Proper.{givenFault, checkGiven}
 use Rattle.format.specs.Answers.{checkedNumber}
-use Rattle.trits.specs.declared.Layout.{Layout}
 use Rattle.proper.specs.Examined.{Counted, givenFrom}
 use Rattle.proper.specs.Samples.{far, levelOf}
 use Rattle.proper.proofs.OpenLaws.{given-room}
-use Rattle.proper.proofs.GivenLaws.{front-level, section6-level, level-refused, level-passed, counted-trits, counted-nodes}
+use Rattle.proper.proofs.GivenLaws.{front-level, section6-level, level-refused, level-passed, counted-trits}
 use Rattle.proper.proofs.check.from6.Statement.{statement}
 use Rattle.proper.proofs.check.from6.Tie as tie
 

@@ -8,7 +8,6 @@ use lib.ListN.{length}
 use Rattle.format.specs.Image.{given}
 use Rattle.format.specs.Proper.{givenFault, checkGiven}
 use Rattle.format.specs.Answers.{checkedNumber}
-use Rattle.trits.specs.declared.Layout.{Layout}
 use Rattle.proper.specs.Examined.{Counted, givenFrom}
 use Rattle.proper.specs.Samples.{near, levelOf}
 use Rattle.proper.proofs.OpenLaws.{given-room}

@@ -1,17 +1,16 @@
 -- `check::from9` meets its contract. Assumes nothing.
 use Prim.Native.Nat.{ℕ, _+_, _*_, _≤_}
 use native.Mathlib.Omega.{arith}
-use mathlib.Core.Path.{_≡_, sym, ap, _∙_, subst}
-use mathlib.Core.Bool.{Bool}
+use mathlib.Core.Path.{_≡_, sym, ap, _∙_}
 use mathlib.Core.List.{List, []}
 use borrow.Author.Needs.{needs}
 use lib.ListN.{length}
 use Rattle.format.specs.Faults.{fault}
 use Rattle.format.specs.Lists.{same, up}
 use Rattle.format.specs.Image.{bytes, nodeCount, markSamples, given, section9}
-use Rattle.format.specs.Proper.{contentsOf, givenFault, checkGiven}
+use Rattle.format.specs.Proper.{givenFault, checkGiven}
 use Rattle.format.specs.Answers.{checkedNumber}
-use Rattle.format.specs.declared.Refusal.the-variants.{IndexWrong, BytesAfterImage}
+use Rattle.format.specs.declared.Refusal.the-variants.{IndexWrong}
 use Rattle.format.proofs.CheckLaws.{limits-nodes}
 use Rattle.proper.specs.Known.{Marked}
 use Rattle.proper.specs.Examined.{opens}

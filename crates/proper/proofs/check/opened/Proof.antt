@@ -2,7 +2,7 @@
 use native.Mathlib.Omega.{arith}
 use mathlib.Core.Path.{_≡_, sym, _∙_}
 use borrow.Author.Needs.{needs}
-use lib.ListN.{length, length-drop}
+use lib.ListN.{length-drop}
 use Rattle.format.specs.Proper.{countOf, SectionGives}
 use Rattle.format.specs.Answers.{refusalNumber}
 use Rattle.format.proofs.OneToOne.{refusal-some}
