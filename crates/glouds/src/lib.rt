@@ -3,6 +3,7 @@
 ghost use mathlib.Core.Path.{_≡_};
 ghost use Prim.Native.Nat.{_*_};
 ghost use Rattle.format.specs.Answers.{refusalNumber};
+ghost use Rattle.format.specs.Batch.{batchOutcome};
 ghost use Rattle.format.specs.Packing.{packOutcome};
 ghost use Rattle.format.specs.Proper.{checkImage};
 ghost use Rattle.format.specs.Unpack.{unpackOutcome};
@@ -53,4 +54,21 @@ pub extern "C" fn glouds_unpack(image: &[u8], table: &mut [u16]) -> u64
         format::Unpacked::Table(size) => size as u64,
         format::Unpacked::Refused(r) => refused(r),
     }
+}
+
+// Answers a batch of questions, three words each, and adds it to the lent tally: 0, or a refusal from 41 to 43 or 21 to 26.
+#[no_mangle]
+pub extern "C" fn glouds_ask(
+    image: &[u8],
+    questions: &[u32],
+    answers: &mut [u32],
+    tally: &mut format::Tally,
+) -> u32
+    ensures { λ r. ⌜ batchOutcome (now (image .entry)) (now (questions .entry)) (now (answers .entry)) (now (tally .entry))
+        ≡ record { code = r; words = now (answers .exit); tally = now (tally .exit) } ⌝ }
+{
+    let old = *tally;
+    let done = asking::batch::ask(image, questions, answers, old);
+    *tally = done.tally;
+    done.code
 }
