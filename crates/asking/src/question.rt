@@ -8,6 +8,7 @@ use format::Neighbour;
 use format::Refusal;
 use format::Sort;
 use trits::Layout;
+use trits::Ranks;
 ghost use mathlib.Core.Path.{_≡_};
 ghost use mathlib.Core.Option.{some};
 ghost use Prim.Native.Nat.{_+_, _≤_, _<_};
@@ -114,11 +115,12 @@ fn operands(image: &[u8], table: &[u8; 243], lay: Layout, a: usize, b: usize) ->
 }
 
 // The edge at place `p`, where a 1 or a 2 stands: the next node, or the next entry of section 2.
-fn edge(image: &[u8], table: &[u8; 243], lay: Layout, p: usize, zeros: usize, t: usize) -> Answer
-    requires { ⌜ (Laid (now image) lay) × (now table ≡ tryteTable) × (EdgePlace (tritsOf (now image)) p zeros t) ⌝ }
+fn edge(image: &[u8], lay: Layout, p: usize, before: Ranks, t: usize) -> Answer
+    requires { ⌜ (Laid (now image) lay) × (EdgePlace (tritsOf (now image)) p before t) ⌝ }
     ensures { λ r. ⌜ answerNumbers r ≡ operandOr33 (some (edgeAt (tritsOf (now (image .entry))) (shadowsOf (now (image .entry))) p)) ⌝ }
 {
-    let ones = trits::rank(image, table, lay, 1, p);
+    let zeros = before.zeros;
+    let ones = before.ones;
     if t == 1 {
         return listed(ones + 1, Sort::Real);
     }
@@ -144,11 +146,12 @@ fn operand(image: &[u8], table: &[u8; 243], lay: Layout, a: usize, b: usize) -> 
     if t == 0 {
         return Answer::Refused(Refusal::SecondOutside);
     }
-    let zeros = trits::rank(image, table, lay, 0, p);
+    let before = trits::rank_both(image, table, lay, p);
+    let zeros = before.zeros;
     if zeros != a {
         return Answer::Refused(Refusal::SecondOutside);
     }
-    edge(image, table, lay, p, zeros, t)
+    edge(image, lay, p, before, t)
 }
 
 // Kind 5: the entries of the node's group, and its real use where it is no root.

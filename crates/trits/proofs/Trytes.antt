@@ -1,20 +1,22 @@
 -- Rank and the search by trytes and trits: a tryte x of the trits counts on from its first place, and division takes its trits off. Assumes nothing.
 use Prim.Native.Nat.{ℕ, _+_, _-_, _*_, _/_, _%_, _^_, _≤_, _<_}
-use native.Mathlib.Nat.{div-one, div-div-eq-div-mul, pow-zero, pow-suc, sub-self}
+use native.Mathlib.Nat.{div-one, div-div-eq-div-mul, pow-zero, pow-suc, sub-self, zero-add}
 use native.Mathlib.Omega.{arith}
 use native.Mathlib.Decide.{decLe}
 use native.Mathlib.Numerals.{add-one}
 use mathlib.Core.Path.{_≡_, refl, sym, ap, _∙_}
 use mathlib.Core.Logic.{_⊎_, inl, inr, ⊎-elim}
+use mathlib.Core.Bool.{Bool, true}
 use mathlib.Core.List.{List}
-use lib.Dec.{lit<, lit≤}
+use lib.Dec.{eqb, lit<, lit≤}
 use lib.ListN.{length, getD, take, drop}
 use lib.Seq.{getD-take, getD-drop}
-use Rattle.format.specs.Lists.{countIn, lowDigits, spread}
+use borrow.Author.Tests.{eqb-true}
+use Rattle.format.specs.Lists.{run, every, countIn, lowDigits, spread}
 use Rattle.format.specs.Image.{section1}
 use Rattle.format.specs.Proper.{tritsOf, Whole}
 use Rattle.format.specs.Trits.{rank, trytes, tryteCount, tryteTable, Selected}
-use Rattle.format.proofs.Laws.{rank-past, rank-mono, rank-three, rank-le, rank-count, rank-hit, rank-miss}
+use Rattle.format.proofs.Laws.{every-run, rank-past, rank-mono, rank-three, rank-le, rank-count, rank-hit, rank-miss}
 use Rattle.format.proofs.Digits.{below-digits, length-digits, digits-at, spread-at, lt-up}
 use Rattle.format.proofs.Select.{rank-tryte, trit-at}
 use Rattle.format.proofs.Tryte.{tryte-entry}
@@ -22,9 +24,14 @@ use Rattle.format.proofs.Sizes.{length-trytes}
 use Rattle.format.proofs.ImageReads.{below-gather, byte-inside, byte-reads}
 use Rattle.format.proofs.OnImage.{proper, sectioned}
 use Rattle.trits.specs.declared.Layout.{Layout}
+use Rattle.trits.specs.declared.Ranks.{Ranks}
 use Rattle.trits.specs.Layout.{layoutOf, Laid}
-use Rattle.trits.specs.Search.{Tryte, Between}
+use Rattle.trits.specs.Search.{Tryte, Between, ranksOf, frontOf}
 use Rattle.trits.proofs.Searching.{ordered, inside, later, sooner}
+
+-- the zeros are the same, and the ones
+pub both : {z z′ o o′ : ℕ} → z ≡ z′ → o ≡ o′ → _≡_ {A = Ranks} (record { zeros = z; ones = o }) (record { zeros = z′; ones = o′ })
+both p q = λ i. record { zeros = p i; ones = q i }
 
 -- ---- one tryte
 
@@ -59,6 +66,23 @@ entry-parts x e h is =
       count-few 1 x 5,
       rank-three (lowDigits 3 5 x) (below-digits 3 5 x (lit< tt)) 5 (omega (arith, length-digits 3 5 x)),
     )
+
+-- a tryte cut behind its first r trits: the others count as zeros. Computed once over all trytes.
+cut-right : ℕ → Bool
+unfolding tryteCount
+cut-right x = every (λ r. eqb (getD tryteTable (x % 3 ^ r) 0) (tryteCount 0 x r + (5 - r) + 8 * tryteCount 1 x r)) (run 0 5)
+
+all-cut : every cut-right (run 0 243) ≡ true
+unfolding cut-right
+all-cut = refl
+
+pub cut-entry : (x r : ℕ) → x < 243 → r < 5 → getD tryteTable (x % 3 ^ r) 0 ≡ tryteCount 0 x r + (5 - r) + 8 * tryteCount 1 x r
+unfolding cut-right
+cut-entry x r h l =
+    eqb-true _ _ (every-from (λ r. eqb (getD tryteTable (x % 3 ^ r) 0) (tryteCount 0 x r + (5 - r) + 8 * tryteCount 1 x r)) 5 (every-from cut-right 243 all-cut x h) r l)
+  where
+    every-from : (f : ℕ → Bool) (n : ℕ) → every f (run 0 n) ≡ true → (i : ℕ) → i < n → f i ≡ true
+    every-from f n e i l = ap f (sym (zero-add i)) ∙ every-run f 0 n e i l
 
 -- division takes a trit off
 one-less : (x i : ℕ) → x / 3 ^ i / 3 ≡ x / 3 ^ (i + 1)
@@ -112,6 +136,10 @@ module _ {xs : List ℕ} {q x : ℕ} (T : Tryte xs q x) where
   -- r trits more
   pub rank-more : (t r : ℕ) → r ≤ 5 → 5 * q + r ≤ length xs → rank t xs (5 * q + r) ≡ rank t xs (5 * q) + tryteCount t x r
   rank-more t r h l = rw (T .is) (rank-tryte t xs (T .threes) q r h l)
+
+  pub ranks-more : (r : ℕ) → r ≤ 5 → 5 * q + r ≤ length xs → (w f : Ranks) → w ≡ ranksOf xs (5 * q) → f ≡ frontOf x r
+      → _≡_ {A = Ranks} (record { zeros = w .zeros + f .zeros; ones = w .ones + f .ones }) (ranksOf xs (5 * q + r))
+  ranks-more r h l w f ew ef = rw (ew, ef) (both (sym (rank-more 0 r h l)) (sym (rank-more 1 r h l)))
 
   pub rank-next : (t : ℕ) → 5 * q + 5 ≤ length xs → rank t xs (5 * (q + 1)) ≡ rank t xs (5 * q) + tryteCount t x 5
   rank-next t l = let e : 5 * (q + 1) ≡ 5 * q + 5 = omega arith in rw e (rank-more t 5 (lit≤ tt) l)

@@ -4,11 +4,12 @@ use mathlib.Core.Path.{_≡_}
 use mathlib.Core.List.{List}
 use lib.ListN.{length, getD}
 use Rattle.format.specs.Lists.{Below}
-use Rattle.format.specs.Trits.{rank, trytes}
+use Rattle.format.specs.Trits.{rank, trytes, tryteCount}
 use Rattle.format.specs.Proper.{tritsOf, Whole}
 use Rattle.format.proofs.ImageReads.{read}
 use Rattle.trits.specs.declared.Samples.{Samples}
 use Rattle.trits.specs.declared.Spot.{Spot}
+use Rattle.trits.specs.declared.Ranks.{Ranks}
 
 -- In the accepted image b, s is a level of samples: pairs, zeros then ones, of so many bytes a number, before each multiple of its step up to the
 -- last, each counted from the last multiple of fan steps.
@@ -38,3 +39,11 @@ pub record Between (t : ℕ) (xs : List ℕ) (j n p e : ℕ) : Type 0 where
 -- It stands between two multiples of a step, the first of them the spot's.
 abbrev pub Spotted : ℕ → ℕ → List ℕ → ℕ → Spot → Type 0
 Spotted step t xs j s = Between t xs j (s .before) (step * s .at) (step * (s .at + 1))
+
+-- the zeros and ones before place p
+abbrev pub ranksOf : List ℕ → ℕ → Ranks
+ranksOf xs p = record { zeros = rank 0 xs p; ones = rank 1 xs p }
+
+-- the zeros and ones of the first r trits of a tryte
+abbrev pub frontOf : ℕ → ℕ → Ranks
+frontOf x r = record { zeros = tryteCount 0 x r; ones = tryteCount 1 x r }

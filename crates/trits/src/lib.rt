@@ -17,7 +17,7 @@ ghost use Rattle.format.specs.Proper.{checkImage, tritsOf};
 ghost use Rattle.format.specs.Answers.{foundPlace};
 ghost use Rattle.format.proofs.ImageReads.{read};
 ghost use Rattle.trits.specs.Layout.{layout, layoutOf, Laid, farOf, middleOf, nearOf, totalOf};
-ghost use Rattle.trits.specs.Search.{Sampled, Tryte, Spotted};
+ghost use Rattle.trits.specs.Search.{Sampled, Tryte, Spotted, ranksOf, frontOf};
 
 // Zeros + 8 · ones of the five trits of every tryte.
 const TABLE: [u8; 243] = [
@@ -294,6 +294,12 @@ struct Samples {
     last: usize,
 }
 
+// The zeros and ones before a place, or in part of a tryte.
+pub struct Ranks {
+    pub zeros: usize,
+    pub ones: usize,
+}
+
 // Multiple `at` of a step, and how many of a trit stand before it.
 struct Spot {
     at: usize,
@@ -407,6 +413,33 @@ pub fn tryte_part(x: usize, t: usize, r: usize) -> usize
         }
     }
     n
+}
+
+// 3 to the power `r`.
+fn power(r: usize) -> usize
+    requires { ⌜ r < 5 ⌝ }
+    ensures { λ w. ⌜ (w ≡ 3 ^ r) × (0 < w) ⌝ }
+{
+    match r {
+        0 => 1,
+        1 => 3,
+        2 => 9,
+        3 => 27,
+        _ => 81,
+    }
+}
+
+// The zeros and ones of the first `r` trits of tryte `x`: the tryte cut behind them has zeros in place of the others.
+fn tryte_front(table: &[u8; 243], x: usize, r: usize) -> Ranks
+    requires { ⌜ (now table ≡ tryteTable) × (x < 243) × (r < 5) ⌝ }
+    ensures { λ n. ⌜ n ≡ frontOf x r ⌝ }
+{
+    let cut = x % power(r);
+    let e = wide(table[cut]);
+    Ranks {
+        zeros: e % 8 - (5 - r),
+        ones: e / 8,
+    }
 }
 
 // ---- one level of samples
@@ -543,45 +576,68 @@ fn rank_block(image: &[u8], lay: Layout, t: usize, g: usize) -> usize
     six + seven + eight
 }
 
-// The trytes from `from` up to `end` on top of the rank before `from`: at most five.
+// The trytes from `from` up to `end` on top of the zeros and ones before `from`: at most five.
 fn rank_trytes(
     image: &[u8],
     table: &[u8; 243],
     lay: Layout,
-    t: usize,
     from: usize,
     end: usize,
-    before: usize,
-) -> usize
-    requires { ⌜ (Laid (now image) lay) × (now table ≡ tryteTable) × (t < 3) × (from ≤ end) × (end ≤ from + 5) × (5 * end ≤ length (tritsOf (now image))) × (before ≡ rank t (tritsOf (now image)) (5 * from)) ⌝ }
-    ensures { λ r. ⌜ r ≡ rank t (tritsOf (now (image .entry))) (5 * end) ⌝ }
+    before: Ranks,
+) -> Ranks
+    requires { ⌜ (Laid (now image) lay) × (now table ≡ tryteTable) × (from ≤ end) × (end ≤ from + 5) × (5 * end ≤ length (tritsOf (now image))) × (before ≡ ranksOf (tritsOf (now image)) (5 * from)) ⌝ }
+    ensures { λ r. ⌜ r ≡ ranksOf (tritsOf (now (image .entry))) (5 * end) ⌝ }
 {
-    let mut n = before;
+    let mut zeros = before.zeros;
+    let mut ones = before.ones;
     let mut q = from;
     while q < end {
         let x = tryte(image, lay, q);
-        n += tryte_count(table, x, t);
+        zeros += tryte_count(table, x, 0);
+        ones += tryte_count(table, x, 1);
         q += 1;
     }
-    n
+    Ranks { zeros, ones }
 }
 
-// Rank of `t` before place `p`, up to L: its block's rank, at most five whole trytes, and part of one.
-pub fn rank(image: &[u8], table: &[u8; 243], lay: Layout, t: usize, p: usize) -> usize
-    requires { ⌜ (checkImage (now image) ≡ 0) × (now table ≡ tryteTable) × (lay ≡ layoutOf (now image)) × (t < 3) × (p ≤ length (tritsOf (now image))) ⌝ }
-    ensures { λ r. ⌜ r ≡ rank t (tritsOf (now (image .entry))) p ⌝ }
+// The zeros and ones before place `p`, up to L: its block's, at most five whole trytes, and part of one.
+pub fn rank_both(image: &[u8], table: &[u8; 243], lay: Layout, p: usize) -> Ranks
+    requires { ⌜ (checkImage (now image) ≡ 0) × (now table ≡ tryteTable) × (lay ≡ layoutOf (now image)) × (p ≤ length (tritsOf (now image))) ⌝ }
+    ensures { λ r. ⌜ r ≡ ranksOf (tritsOf (now (image .entry))) p ⌝ }
 {
     let g = p / NEAR;
     let from = 5 * g;
     let end = p / 5;
-    let block = rank_block(image, lay, t, g);
-    let whole = rank_trytes(image, table, lay, t, from, end, block);
+    let zeros = rank_block(image, lay, 0, g);
+    let ones = rank_block(image, lay, 1, g);
+    let whole = rank_trytes(image, table, lay, from, end, Ranks { zeros, ones });
     let r = p % 5;
     if r == 0 {
         return whole;
     }
     let x = tryte(image, lay, end);
-    whole + tryte_part(x, t, r)
+    let part = tryte_front(table, x, r);
+    Ranks {
+        zeros: whole.zeros + part.zeros,
+        ones: whole.ones + part.ones,
+    }
+}
+
+// Rank of `t` before place `p`, up to L.
+pub fn rank(image: &[u8], table: &[u8; 243], lay: Layout, t: usize, p: usize) -> usize
+    requires { ⌜ (checkImage (now image) ≡ 0) × (now table ≡ tryteTable) × (lay ≡ layoutOf (now image)) × (t < 3) × (p ≤ length (tritsOf (now image))) ⌝ }
+    ensures { λ r. ⌜ r ≡ rank t (tritsOf (now (image .entry))) p ⌝ }
+{
+    let before = rank_both(image, table, lay, p);
+    let zeros = before.zeros;
+    let ones = before.ones;
+    if t == 0 {
+        return zeros;
+    }
+    if t == 1 {
+        return ones;
+    }
+    p - zeros - ones
 }
 
 // ---- the trit at a place

@@ -1,55 +1,39 @@
--- `trits::rank` meets its contract: block, whole trytes, part of one. Assumes nothing.
-use Prim.Native.Nat.{_+_, _*_, _/_, _%_}
+-- `trits::rank` meets its contract: the zeros, the ones, or what both leave of the place. Assumes nothing.
+use Prim.Native.Nat.{_+_}
 use native.Mathlib.Omega.{arith}
-use mathlib.Core.Path.{_≡_}
+use mathlib.Core.Path.{_≡_, ap}
 use borrow.Author.Needs.{needs}
 use Rattle.format.specs.Trits.{rank}
 use Rattle.format.specs.Proper.{tritsOf}
-use Rattle.trits.specs.Layout.{Laid}
-use Rattle.trits.proofs.Searching.{rank-few}
-use Rattle.trits.proofs.Trytes.{rank-more}
+use Rattle.format.proofs.Laws.{rank-three}
+use Rattle.format.proofs.OnImage.{proper}
 use Rattle.trits.proofs.Levels.{accepted}
 use Rattle.trits.proofs.rank.Statement.{statement}
 use Rattle.trits.proofs.rank.Tie as tie
 
-laid : (c : tie.After-shared-slice-known) → Laid (c .before .args .image .now) (c .before .args .lay)
-laid c = accepted (c .shared-slice-known .given) (c .before .pre .0) (c .before .pre .2)
+-- what the zeros and ones leave
+twos : (c : tie.After-rank-both) → let x = c .before .before in
+    c .rank-both .result .zeros + c .rank-both .result .ones + rank 2 (tritsOf (x .args .image .now)) (x .args .p) ≡ x .args .p
+twos c =
+    let s = c .before in
+    let x = s .before in
+    let b = x .args .image .now in
+    let e = c .rank-both .ensures in
+    rw e (rank-three (tritsOf b) (proper (accepted (s .shared-slice-known .given) (x .pre .0) (x .pre .2) .whole) .threes) (x .args .p) (x .pre .4))
 
-trytes-require : tie.Need-rank-trytes-requires
-trytes-require c κs =
-    let x = c .before .before in
-    let p = x .args .p in
-    let e : 5 * (5 * (p / 25)) ≡ 25 * (p / 25) = omega arith in
-    (laid (c .before), x .pre .1, x .pre .3, omega arith, omega arith, omega arith, rw e (c .rank-block .ensures))
-
-whole : tie.Need-returns
-whole c =
-    let p = c .before .before .before .before .args .p in
-    let e : 5 * (p / 5) ≡ p = omega arith in
-    rw e at (c .before .rank-trytes .ensures)
-
-summed : (c : tie.After-tryte-part) → let a = c .before .before .before .before .before .before .args in
-    c .before .before .before .rank-trytes .result + c .tryte-part .result ≡ rank (a .t) (tritsOf (a .image .now)) (a .p)
-summed c =
-    let x = c .before .before .before .before .before .before in
-    let p = x .args .p in
-    let e : 5 * (p / 5) + p % 5 ≡ p = omega arith in
-    omega (arith, c .before .before .before .rank-trytes .ensures, rw e at (rank-more (c .before .tryte .ensures) (x .args .t) (p % 5) (omega arith) (omega (arith, x .pre))))
-
-add-result : tie.Need-add-result
-add-result c =
-    let s = c .before .before .before .before .before in
-    omega (arith, summed c, rank-few (laid s .whole) (s .before .args .t) (s .before .args .p))
+left : tie.Need-returns-3
+left c =
+    let s = c .before .before in
+    let e : s .before .before .args .t ≡ 2 = omega (arith, s .before .before .pre .3) in
+    rw e (omega (arith, twos s))
 
 pub rank-spec : {M : Type 1} → statement M
 rank-spec =
     tie.close
     (tie.spec
-    (λ c. search needs)
-    (λ c κs. (laid c, c .before .pre .3, omega arith))
-    trytes-require
-    whole
-    (λ c κs. (laid (c .before .before .before), omega (arith, c .before .before .before .before .pre)))
     (λ c κs. search needs)
-    add-result
-    summed)
+    (λ c. rw (c .if1 .taken) (ap (λ r. r .zeros) (c .before .rank-both .ensures)))
+    (λ c. rw (c .if2 .taken) (ap (λ r. r .ones) (c .before .before .rank-both .ensures)))
+    (λ c. omega (arith, twos (c .before .before)))
+    (λ c. omega (arith, twos (c .before .before)))
+    left)

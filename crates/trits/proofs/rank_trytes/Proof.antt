@@ -1,7 +1,8 @@
--- `trits::rank_trytes` meets its contract: the loop keeps the rank before tryte q. Assumes nothing.
+-- `trits::rank_trytes` meets its contract: the loop keeps the zeros and ones before tryte q. Assumes nothing.
 use Prim.Native.Nat.{_-_, _*_, _≤_}
 use native.Mathlib.Omega.{arith}
-use mathlib.Core.Path.{_≡_}
+use mathlib.Core.Path.{_≡_, ap}
+use lib.Dec.{lit<}
 use borrow.Author.Needs.{needs}
 use Rattle.format.specs.Trits.{rank}
 use Rattle.format.specs.Proper.{tritsOf}
@@ -12,23 +13,22 @@ use Rattle.trits.proofs.rank_trytes.Statement.{statement}
 use Rattle.trits.proofs.rank_trytes.Tie as tie
 
 abbrev Inv-loop : tie.InvT-loop
-Inv-loop image table lay t from end before n₀ q₀ n q = (q ≤ end) × (n ≡ rank t (tritsOf image) (5 * q))
+Inv-loop image table lay from end zeros₀ ones₀ q₀ zeros ones q = (q ≤ end) × (zeros ≡ rank 0 (tritsOf image) (5 * q)) × (ones ≡ rank 1 (tritsOf image) (5 * q))
 
 abbrev μ-loop : tie.MeasureT-loop
-μ-loop image table lay t from end before n₀ q₀ n q = end - q
-
-add-n : tie.Need-add-n Inv-loop μ-loop
-add-n c =
-    let x = c .before .before .before .before .before in
-    omega (arith, rank-few (x .pre .0 .whole) (x .args .t) (5 * c .before .before .before .loop .q))
+μ-loop image table lay from end zeros₀ ones₀ q₀ zeros ones q = end - q
 
 loop-again : tie.Need-loop-again Inv-loop μ-loop
 loop-again c =
-    let x = c .before .before .before .before .before in
-    (omega arith, omega (arith, rank-next (c .before .tryte .ensures) (x .args .t) (omega arith)))
+    let x = c .before .before .before .before .before .before in
+    let T = c .before .before .tryte .ensures in
+    (omega arith, omega (arith, rank-next T 0 (omega (arith, x .pre))), omega (arith, rank-next T 1 (omega (arith, x .pre))))
 
 returns : tie.Need-returns Inv-loop μ-loop
-returns c = let e : c .before .before .before .args .end ≡ c .before .loop .q = omega arith in rw e (c .before .loop .inv .1)
+returns c =
+    let l = c .before .loop in
+    let e : c .before .before .before .args .end ≡ l .q = omega arith in
+    rw (e, l .inv .1, l .inv .2)
 
 pub rank-trytes-spec : {M : Type 1} → statement M
 rank-trytes-spec =
@@ -36,11 +36,13 @@ rank-trytes-spec =
     (tie.spec
     Inv-loop
     μ-loop
-    (λ c. search needs)
+    (λ c. let x = c .before in (x .pre .2, ap (λ r. r .zeros) (x .pre .5), ap (λ r. r .ones) (x .pre .5)))
     (λ c κs. (c .before .before .before .pre .0, omega arith))
-    (λ c κs. let x = c .before .before .before .before in (x .pre .1, c .tryte .ensures .low, x .pre .2))
-    add-n
-    (λ c. omega (arith, few (c .before .before .before .before .before .pre .0 .whole)))
+    (λ c κs. (c .before .before .before .before .pre .1, c .tryte .ensures .low, lit< tt))
+    (λ c. let x = c .before .before .before .before .before in omega (arith, rank-few (x .pre .0 .whole) 0 (5 * c .before .before .before .loop .q)))
+    (λ c κs. (c .before .before .before .before .before .pre .1, c .before .tryte .ensures .low, lit< tt))
+    (λ c. let x = c .before .before .before .before .before .before in omega (arith, rank-few (x .pre .0 .whole) 1 (5 * c .before .before .before .before .loop .q)))
+    (λ c. omega (arith, few (c .before .before .before .before .before .before .pre .0 .whole)))
     (λ c. omega arith)
     loop-again
     returns)

@@ -1,7 +1,7 @@
 -- `question::operand` meets its contract: an operand stands before the next zero. Assumes nothing.
 use Prim.Native.Nat.{_+_, _<_}
 use native.Mathlib.Omega.{arith}
-use mathlib.Core.Path.{sym, _∙_}
+use mathlib.Core.Path.{sym, ap, _∙_}
 use lib.Dec.{lit<}
 use lib.ListN.{length}
 use Rattle.format.specs.Proper.{tritsOf}
@@ -38,27 +38,24 @@ at-zero c =
     let x = s .before .before .before in
     operand-end (x .pre .0) (omega (arith, s .before .if1 .left)) (s .place .ensures) (c .before .trit-at .ensures) (c .if3 .taken)
 
-rank-requires : tie.Need-rank-requires
+rank-requires : tie.Need-rank-both-requires
 rank-requires c κs =
     let e = c .before .before in
     let x = e .before .before .before .before in
-    (x .pre .0 .laid .whole .passes, x .pre .1, x .pre .0 .laid .is, lit< tt, omega (arith, inside e))
+    (x .pre .0 .laid .whole .passes, x .pre .1, x .pre .0 .laid .is, omega (arith, inside e))
 
 other-node : tie.Need-returns-4
 other-node c =
     let s = c .before .before .before .before .before in
     let x = s .before .before .before in
-    operand-other (x .pre .0) (omega (arith, s .before .if1 .left)) (s .place .ensures) (c .before .rank .ensures) (c .if4 .taken)
+    operand-other (x .pre .0) (omega (arith, s .before .if1 .left)) (s .place .ensures) (ap (λ r. r .zeros) (c .before .rank-both .ensures)) (c .if4 .taken)
 
 edge-requires : tie.Need-edge-requires
 edge-requires c κs =
     let t = c .before .before in
     let e = t .before .before in
-    let x = e .before .before .before .before in (
-      x .pre .0 .laid,
-      x .pre .1,
-      record { inside = inside e; zeros-are = c .before .rank .ensures; trit-is = t .before .trit-at .ensures; no-zero = omega (arith, t .if3 .left) },
-    )
+    let x = e .before .before .before .before in
+    (x .pre .0 .laid, record { inside = inside e; ranks-are = c .before .rank-both .ensures; trit-is = t .before .trit-at .ensures; no-zero = omega (arith, t .if3 .left) })
 
 there : tie.Need-returns-5
 there c =
@@ -69,7 +66,7 @@ there c =
     let x = s .before .before .before in
     c .edge .ensures
     ∙ operand-there (x .pre .0) (omega (arith, s .before .if1 .left)) (s .place .ensures)
-    (sym (q .before .rank .ensures) ∙ q .if4 .left) (λ z. t .if3 .left (t .before .trit-at .ensures ∙ z))
+    (sym (ap (λ r. r .zeros) (q .before .rank-both .ensures)) ∙ q .if4 .left) (λ z. t .if3 .left (t .before .trit-at .ensures ∙ z))
 
 pub operand-spec : {M : Type 1} → statement M
 operand-spec =
