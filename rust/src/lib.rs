@@ -4,7 +4,7 @@
 //!
 //! Each function is a feature, off until the library has it. `cargo test`
 //! tests the independent side, `glouds::plain`, on document 01's cases; with
-//! `--features pack,check,unpack` and `GLOUDS_LIB_DIR=folder` it also tests
+//! `--features pack,check,unpack,ask` and `GLOUDS_LIB_DIR=folder` it also tests
 //! the libglouds.a in that folder against it, and `cargo run --release
 //! --features pack,check --bin bench` measures packing and checking.
 
