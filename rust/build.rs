@@ -6,7 +6,10 @@ use std::path::PathBuf;
 
 fn main() {
     let linked = ["PACK", "CHECK", "UNPACK", "ASK"];
-    if !linked.iter().any(|f| env::var_os(format!("CARGO_FEATURE_{f}")).is_some()) {
+    if !linked
+        .iter()
+        .any(|f| env::var_os(format!("CARGO_FEATURE_{f}")).is_some())
+    {
         return;
     }
     let package = PathBuf::from(env::var_os("CARGO_MANIFEST_DIR").expect("run by cargo"));

@@ -23,7 +23,12 @@ pub struct Tally {
     pub refused: u32,
 }
 
-#[cfg(any(feature = "pack", feature = "check", feature = "unpack", feature = "ask"))]
+#[cfg(any(
+    feature = "pack",
+    feature = "check",
+    feature = "unpack",
+    feature = "ask"
+))]
 mod c {
     extern "C" {
         #[cfg(feature = "pack")]

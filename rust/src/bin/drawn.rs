@@ -18,7 +18,10 @@ fn main() {
             println!("order {order:?}");
             println!("image of {size} bytes");
             println!("{:?}", &image[..size]);
-            println!("checker of the independent side: {}", plain::check(&image[..size]));
+            println!(
+                "checker of the independent side: {}",
+                plain::check(&image[..size])
+            );
         }
         Err(refusal) => println!("refused {refusal}"),
     }
