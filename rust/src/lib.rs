@@ -6,7 +6,7 @@
 //! tests the independent side, `glouds::plain`, on document 01's cases; with
 //! `--features pack,check,unpack,ask` and `GLOUDS_LIB_DIR=folder` it also tests
 //! the libglouds.a in that folder against it, and `cargo run --release
-//! --features pack,check --bin bench` measures packing and checking.
+//! --features pack,check,ask --bin bench` measures it.
 
 pub mod make;
 pub mod plain;

@@ -1,0 +1,18 @@
+//! Times the library beside ordinary Rust with growable lists, in one run:
+//! packing and checking over five shapes and five sizes, then batches of
+//! questions of each kind.
+
+mod asking;
+mod packing;
+mod times;
+
+fn main() {
+    println!(
+        "Medians and leasts of {} rounds, the functions of a line in turns.",
+        times::ROUNDS
+    );
+    println!("Ratios are of medians and of leasts; below 1 the first is faster. Our buffers");
+    println!("were allocated once for each line. On a busy machine go by the leasts.");
+    packing::run();
+    asking::run();
+}

@@ -1,0 +1,92 @@
+//! glouds_pack beside the plain packer, and glouds_check beside glouds_pack:
+//! five shapes, five sizes.
+
+use crate::times::{self, Times};
+use glouds::make::{self, Xorshift};
+use glouds::plain::{self, Graph};
+use std::hint::black_box;
+
+/// Each timing repeats the call until it has gone over this many trits.
+const TRITS_A_TIMING: usize = 60_000;
+
+/// A shape: its name and the graph of about so many trits, at most the largest.
+type Shape = (&'static str, fn(usize) -> Graph);
+
+const SHAPES: [Shape; 5] = [
+    ("chain", |l| make::chain((l / 2).min(30_000))),
+    ("all roots", |l| make::all_roots((l / 2).min(30_000))),
+    ("random, shared operands", |l| {
+        let n = (l * 3 / 10).min(30_000);
+        let m = (n * 65_535) / 30_000;
+        make::random(n, m, 1, &mut Xorshift::new(31))
+    }),
+    ("one node used by all", |l| {
+        let n = (l * 30_000 / 125_535).min(30_000);
+        make::used_by_all(n, n * 65_535 / 30_000)
+    }),
+    ("loops on one node", |l| make::loops((l - 3).min(65_535))),
+];
+
+/// Trits aimed at; the last is above every shape's largest.
+const SIZES: [usize; 5] = [1_000, 4_000, 16_000, 50_000, 130_000];
+
+/// L of one graph, and nanoseconds a trit of the three functions.
+pub struct Measured {
+    pub trits: usize,
+    pub pack: Times,
+    pub check: Times,
+    pub plain: Times,
+}
+
+/// Times the functions on one graph.
+pub fn measure(graph: &Graph) -> Measured {
+    let table = graph.table();
+    let expected = plain::pack(&table).expect("an accepted table");
+    let trits = expected.trits.len();
+    let mut order = vec![0; graph.nodes()];
+    let mut work = vec![0; 3 * graph.nodes()];
+    let mut image = vec![0; expected.image.len()];
+    let [pack, check, plain] = times::in_turns(
+        TRITS_A_TIMING.div_ceil(trits),
+        trits,
+        [
+            &mut || {
+                let length = glouds::pack(&table, &mut order, &mut work, &mut image);
+                assert_eq!(length, Ok(expected.image.len()));
+            },
+            &mut || assert_eq!(glouds::check(&expected.image), 0),
+            &mut || {
+                let packed = plain::pack(black_box(&table)).expect("an accepted table");
+                assert_eq!(packed.image.len(), expected.image.len());
+            },
+        ],
+    );
+    assert!(order == expected.order && image == expected.image);
+    Measured {
+        trits,
+        pack,
+        check,
+        plain,
+    }
+}
+
+/// Measures all shapes and sizes and prints two blocks.
+pub fn run() {
+    let mut lines = Vec::new();
+    for (name, shape) in SHAPES {
+        for size in SIZES {
+            lines.push((name, measure(&shape(size))));
+        }
+    }
+    println!();
+    println!("Packing beside the plain packer, which allocates its lists in each call, and");
+    println!("checking the image beside packing: nanoseconds a trit.");
+    times::heading(["shape", "trits"], ["pack med", "plain med"]);
+    for (name, m) in &lines {
+        times::line(name, m.trits, [&m.pack, &m.plain]);
+    }
+    times::heading(["shape", "trits"], ["check med", "pack med"]);
+    for (name, m) in &lines {
+        times::line(name, m.trits, [&m.check, &m.pack]);
+    }
+}
