@@ -9,7 +9,9 @@
 //! --features pack,check,ask --bin bench` measures it.
 
 pub mod make;
+pub mod owned;
 pub mod plain;
+pub mod refusals;
 
 /// The caller's own record of questions, lent to each batch.
 #[repr(C)]
