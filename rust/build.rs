@@ -22,4 +22,9 @@ fn main() {
     );
     println!("cargo:rustc-link-search=native={}", folder.display());
     println!("cargo:rustc-link-lib=static=glouds");
+    // For tests and programs that look at the library itself.
+    println!(
+        "cargo:rustc-env=GLOUDS_LIB={}",
+        folder.join("libglouds.a").display()
+    );
 }
