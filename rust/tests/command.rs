@@ -791,3 +791,24 @@ fn rooms() {
     assert_eq!(table.len(), glouds::owned::MOST_TABLE_WORDS);
     assert_eq!(image(&table).len(), glouds::owned::MOST_IMAGE_BYTES);
 }
+
+/// The drawn graph's image in docs/FORMAT.md, byte by byte, is the library's.
+#[test]
+fn format_paper() {
+    let path = concat!(env!("CARGO_MANIFEST_DIR"), "/../docs/FORMAT.md");
+    let paper = fs::read_to_string(path).unwrap();
+    let block = paper.split("```image\n").nth(1).unwrap();
+    let mut written = Vec::new();
+    for line in block.split("```").next().unwrap().lines() {
+        let [place, numbers, _] = line.split('|').collect::<Vec<_>>()[..] else {
+            panic!("{line}");
+        };
+        assert_eq!(place.trim().parse(), Ok(written.len()), "{line}");
+        let numbers = numbers.split_whitespace();
+        written.extend(numbers.map(|number| u8::from_str_radix(number, 16).unwrap()));
+    }
+    let folder = Folder::new("paper");
+    folder
+        .run_with(&["pack", "-", "-"], &bytes(&DRAWN))
+        .done(&written);
+}
