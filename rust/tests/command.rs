@@ -764,7 +764,7 @@ fn help() {
     folder.run(&["--help"]).done(text.as_bytes());
 }
 
-/// Room for an image by the words of its table, and the largest image.
+/// Room for an image by the words of its table.
 #[test]
 fn rooms() {
     let rng = &mut Xorshift::new(233);
@@ -782,14 +782,30 @@ fn rooms() {
         assert!(length <= glouds::owned::image_room(table.len()));
         assert!(length <= glouds::owned::MOST_IMAGE_BYTES);
     }
+}
+
+/// The largest image, and the same with a byte after it.
+#[test]
+fn largest_image() {
     // Each of 30,000 roots uses itself twice, and some once more.
-    let mut most = make::all_roots(30_000);
-    for (index, list) in most.operands.iter_mut().enumerate() {
+    let mut graph = make::all_roots(30_000);
+    for (index, list) in graph.operands.iter_mut().enumerate() {
         *list = vec![index + 1; if index < 5_535 { 3 } else { 2 }];
     }
-    let table = most.table();
+    let table = graph.table();
     assert_eq!(table.len(), glouds::owned::MOST_TABLE_WORDS);
-    assert_eq!(image(&table).len(), glouds::owned::MOST_IMAGE_BYTES);
+    let mut image = image(&table);
+    assert_eq!(image.len(), glouds::owned::MOST_IMAGE_BYTES);
+    let folder = Folder::new("largest-image");
+    let ran = folder.run_with(&["pack", "-", "-"], &bytes(&table));
+    ran.done(&image);
+    let ran = folder.run_with(&["unpack", "-", "-"], &image);
+    ran.done(&bytes(&table));
+    image.push(0);
+    folder.run_with(&["check", "-"], &image).refused("-", 26);
+    folder
+        .run_with(&["unpack", "-", "-"], &image)
+        .refused("-", 26);
 }
 
 /// The drawn graph's image in docs/FORMAT.md, byte by byte, is the library's.
