@@ -1,12 +1,13 @@
 //! Safe wrappers over the C functions of libglouds.a, which packs directed
 //! graphs in the GLOUDS form. Tables, images, questions and refusal numbers are
-//! those of document 01.
+//! those of document 01. `owned` has the same functions with vectors.
 //!
 //! Each function is a feature, off until the library has it. `cargo test`
 //! tests the independent side, `glouds::plain`, on document 01's cases; with
 //! `--features pack,check,unpack,ask` and `GLOUDS_LIB_DIR=folder` it also tests
-//! the libglouds.a in that folder against it, and `cargo run --release
-//! --features pack,check,ask --bin bench` measures it.
+//! the libglouds.a in that folder against it, the command `glouds` and the C
+//! header. `cargo run --release` with these features and `--bin bench` or
+//! `--bin memory` measures the library.
 
 pub mod make;
 pub mod owned;
