@@ -628,11 +628,27 @@ fn pipes() {
     folder
         .run_with(&["unpack", "-", "-"], &drawn)
         .done(&bytes(&DRAWN));
-    // Devices are written to and not replaced.
-    folder.run(&["pack", "table", "/dev/stdout"]).done(&drawn);
-    folder.run(&["pack", "table", "/dev/null"]).done(b"");
-    assert!(!fs::metadata("/dev/null").unwrap().is_file());
     assert_eq!(folder.names(), ["image", "order", "table"]);
+}
+
+/// A pipe with a name is written to and not replaced.
+#[test]
+fn named_pipe() {
+    let folder = Folder::new("named").with("table", &bytes(&DRAWN));
+    let path = folder.0.join("pipe");
+    let made = Command::new("mkfifo").arg(&path).status().unwrap();
+    assert!(made.success());
+    let reader = std::thread::spawn({
+        let path = path.clone();
+        move || fs::read(path).unwrap()
+    });
+    folder.run(&["pack", "table", "pipe"]).done(b"");
+    assert_eq!(reader.join().unwrap(), image(&DRAWN));
+    assert!(!fs::metadata(path).unwrap().is_file());
+    folder
+        .run(&["pack", "table", "/dev/stdout"])
+        .done(&image(&DRAWN));
+    assert_eq!(folder.names(), ["pipe", "table"]);
 }
 
 /// A reader that goes away is no success.
