@@ -34,10 +34,6 @@ module _ {b : List ℕ} {lay : Layout} (L : Laid b lay) where
   pub right : ProperTrits (tritsOf b) (shadowsOf b)
   right = proper (L .whole)
 
-  pub trits-is : lay .trits ≡ length (tritsOf b)
-  unfolding layoutOf
-  trits-is = rw (L .is)
-
   pub nodes-is : lay .nodes ≡ nodeCount (tritsOf b)
   unfolding layoutOf
   nodes-is = rw (L .is)

@@ -1,22 +1,22 @@
 -- Rank and the search by trytes and trits: a tryte x of the trits counts on from its first place, and division takes its trits off. Assumes nothing.
-use Prim.Native.Nat.{ℕ, _+_, _-_, _*_, _/_, _%_, _^_, _≤_, _<_}
+use Prim.Native.Nat.{ℕ, zero, suc, _+_, _-_, _*_, _/_, _%_, _^_, _≤_, _<_}
 use native.Mathlib.Nat.{div-one, div-div-eq-div-mul, pow-zero, pow-suc, sub-self, zero-add}
 use native.Mathlib.Omega.{arith}
 use native.Mathlib.Decide.{decLe}
 use native.Mathlib.Numerals.{add-one}
 use mathlib.Core.Path.{_≡_, refl, sym, ap, _∙_}
 use mathlib.Core.Logic.{_⊎_, inl, inr, ⊎-elim}
-use mathlib.Core.Bool.{Bool, true}
+use mathlib.Core.Bool.{Bool, true, _&&_, cond}
 use mathlib.Core.List.{List}
-use lib.Dec.{eqb, lit<, lit≤}
+use lib.Dec.{eqb, ltb, lit<, lit≤}
 use lib.ListN.{length, getD, take, drop}
 use lib.Seq.{getD-take, getD-drop}
-use borrow.Author.Tests.{eqb-true}
-use Rattle.format.specs.Lists.{run, every, countIn, lowDigits, spread}
+use borrow.Author.Tests.{eqb-true, ltb-true, lt-ltb}
+use Rattle.format.specs.Lists.{bit, run, every, countIn, lowDigits, spread}
 use Rattle.format.specs.Image.{section1}
 use Rattle.format.specs.Proper.{tritsOf, Whole}
 use Rattle.format.specs.Trits.{rank, trytes, tryteCount, tryteTable, Selected}
-use Rattle.format.proofs.Laws.{every-run, rank-past, rank-mono, rank-three, rank-le, rank-count, rank-hit, rank-miss}
+use Rattle.format.proofs.Laws.{both-true, every-run, rank-past, rank-mono, rank-three, rank-le, rank-count, rank-hit, rank-miss}
 use Rattle.format.proofs.Digits.{below-digits, length-digits, digits-at, spread-at, lt-up}
 use Rattle.format.proofs.Select.{rank-tryte, trit-at}
 use Rattle.format.proofs.Tryte.{tryte-entry}
@@ -26,8 +26,8 @@ use Rattle.format.proofs.OnImage.{proper, sectioned}
 use Rattle.trits.specs.declared.Layout.{Layout}
 use Rattle.trits.specs.declared.Ranks.{Ranks}
 use Rattle.trits.specs.Layout.{layoutOf, Laid}
-use Rattle.trits.specs.Search.{Tryte, Between, ranksOf, frontOf}
-use Rattle.trits.proofs.Searching.{ordered, inside, later, sooner}
+use Rattle.trits.specs.Search.{Tryte, PlaceIn, Between, ranksOf, frontOf}
+use Rattle.trits.proofs.Searching.{inside, later, sooner}
 
 -- the zeros are the same, and the ones
 pub both : {z z′ o o′ : ℕ} → z ≡ z′ → o ≡ o′ → _≡_ {A = Ranks} (record { zeros = z; ones = o }) (record { zeros = z′; ones = o′ })
@@ -46,9 +46,9 @@ pub count-few : (t x r : ℕ) → tryteCount t x r ≤ r
 unfolding tryteCount rank
 count-few t x r = rank-le t (lowDigits 3 5 x) r
 
-count-mono : (t x r : ℕ) → r ≤ 5 → tryteCount t x r ≤ tryteCount t x 5
+count-mono : (t x r s : ℕ) → r ≤ s → tryteCount t x r ≤ tryteCount t x s
 unfolding tryteCount rank
-count-mono t x r h = rank-mono t (lowDigits 3 5 x) r 5 h
+count-mono t x r s h = rank-mono t (lowDigits 3 5 x) r s h
 
 -- a table entry, taken apart
 pub record Parts (x e : ℕ) : Type 0 where
@@ -67,6 +67,9 @@ entry-parts x e h is =
       rank-three (lowDigits 3 5 x) (below-digits 3 5 x (lit< tt)) 5 (omega (arith, length-digits 3 5 x)),
     )
 
+every-from : (f : ℕ → Bool) (n : ℕ) → every f (run 0 n) ≡ true → (i : ℕ) → i < n → f i ≡ true
+every-from f n e i l = ap f (sym (zero-add i)) ∙ every-run f 0 n e i l
+
 -- a tryte cut behind its first r trits: the others count as zeros. Computed once over all trytes.
 cut-right : ℕ → Bool
 unfolding tryteCount
@@ -80,9 +83,6 @@ pub cut-entry : (x r : ℕ) → x < 243 → r < 5 → getD tryteTable (x % 3 ^ r
 unfolding cut-right
 cut-entry x r h l =
     eqb-true _ _ (every-from (λ r. eqb (getD tryteTable (x % 3 ^ r) 0) (tryteCount 0 x r + (5 - r) + 8 * tryteCount 1 x r)) 5 (every-from cut-right 243 all-cut x h) r l)
-  where
-    every-from : (f : ℕ → Bool) (n : ℕ) → every f (run 0 n) ≡ true → (i : ℕ) → i < n → f i ≡ true
-    every-from f n e i l = ap f (sym (zero-add i)) ∙ every-run f 0 n e i l
 
 -- division takes a trit off
 one-less : (x i : ℕ) → x / 3 ^ i / 3 ≡ x / 3 ^ (i + 1)
@@ -114,6 +114,10 @@ module _ {t x n left i : ℕ} (v : Passed t x n left i) (h : i < length (lowDigi
 pub at1-is : {b : List ℕ} {lay : Layout} → Laid b lay → lay .at1 ≡ 4
 unfolding layoutOf
 at1-is L = ap (λ (l : Layout). l .at1) (L .is)
+
+pub trits-is : {b : List ℕ} {lay : Layout} → Laid b lay → lay .trits ≡ length (tritsOf b)
+unfolding layoutOf
+trits-is L = ap (λ (l : Layout). l .trits) (L .is)
 
 module _ {b : List ℕ} (w : Whole b) (q : ℕ) (l : 5 * q < length (tritsOf b)) where
   abbrev xs : List ℕ
@@ -147,56 +151,96 @@ module _ {xs : List ℕ} {q x : ℕ} (T : Tryte xs q x) where
   pub digit-here : (r : ℕ) → r < 5 → 5 * q + r < length xs → getD xs (5 * q + r) 0 ≡ x / 3 ^ r % 3
   digit-here r h l = rw (T .is) (trit-at xs (T .threes) q r h l)
 
-  -- the search goes on in this tryte, or behind it; the padding of the last tryte may count too, past all there are
-  module _ {t j n e : ℕ} (v : Between t xs j n (5 * q) e) where
-    abbrev Next : Type 0
-    Next = (rank t xs (5 * (q + 1)) ≡ n + tryteCount t x 5) ⊎ ((rank t xs (5 * (q + 1)) ≡ countIn t xs) × (countIn t xs ≤ n + tryteCount t x 5))
+  -- where the trits end in this tryte, the padding behind them does not count
+  padded : (t r : ℕ) → r ≤ 5 → 5 * q < length xs → length xs ≤ 5 * q + r → rank t xs (5 * (q + 1)) ≤ rank t xs (5 * q) + tryteCount t x r
+  padded t r h l e =
+      let d : ℕ = length xs - 5 * q in
+      omega (
+        arith,
+        rank-past t xs (5 * (q + 1)) (omega arith),
+        rank-past t xs (5 * q + d) (omega arith),
+        rank-more t d (omega arith) (omega arith),
+        count-mono t x d r (omega arith),
+      )
 
-    next : Next
-    next = go (decLe (5 * q + 5) (length xs))
+  -- the search ends in this tryte
+  module _ {t j n : ℕ} (v : Between t xs j n (5 * q) (5 * (q + 1))) where
+    pub trit-there : j - n ≤ tryteCount t x 5
+    trit-there = go (decLe (5 * q + 5) (length xs))
       where
-        go : Dec (5 * q + 5 ≤ length xs) → Next
-        go (yes h) = inl (omega (arith, rank-next t h))
-        go (no h) =
-            let r : ℕ = length xs - 5 * q in
-            let l : length xs ≤ 5 * q + r = omega arith in
-            inr (
-              rank-past t xs (5 * (q + 1)) (omega arith),
-              omega (arith, rank-past t xs (5 * q + r) l, rank-more t r (omega arith) (omega (arith, inside v)), count-mono t x r (omega arith)),
-            )
+        go : Dec (5 * q + 5 ≤ length xs) → j - n ≤ tryteCount t x 5
+        go (yes h) = omega (arith, v, rank-next t h)
+        go (no h) = omega (arith, v, padded t 5 (lit≤ tt) (inside v) (omega arith))
 
-    pub in-tryte : j ≤ n + tryteCount t x 5 → Between t xs j n (5 * q) (5 * (q + 1))
-    in-tryte h = sooner v (⊎-elim (λ w. omega arith) (λ w. omega (arith, rank-count t xs e)) next)
+    pub trit-found : {r : ℕ} → PlaceIn x t (j - n) r → Selected t xs j (5 * q + r)
+    trit-found {r} P =
+        let l : 5 * q + r < length xs = go (decLe (length xs) (5 * q + r)) in
+        record { inside = l; holds = digit-here r (P .low) l ∙ P .holds; ranked = omega (arith, v, P, rank-more t r (omega (arith, P)) (omega arith)) }
+      where
+        go : Dec (length xs ≤ 5 * q + r) → 5 * q + r < length xs
+        go (yes h) = absurd (omega (arith, v, P, padded t r (omega (arith, P)) (inside v) h))
+        go (no h) = omega arith
 
-    pub past-tryte : n + tryteCount t x 5 < j → Between t xs j (n + tryteCount t x 5) (5 * (q + 1)) e
-    past-tryte h = later v (⊎-elim (λ w. omega arith) (λ w. absurd (omega (arith, rank-count t xs e))) next) h
+-- ---- the search by trytes: of those before q, the last with fewer than j before it
 
--- ---- the search in a tryte, trit by trit
+pub record Scanning (t : ℕ) (xs : List ℕ) (j e last at before n q : ℕ) : Type 0 where
+  pub from : at ≤ q
+  pub to : q ≤ last
+  pub counted : n ≡ rank t xs (5 * q)
+  pub between : Between t xs j before (5 * at) e
+  pub passed : at < q → j ≤ rank t xs (5 * (at + 1))
 
-pub record Walking (xs : List ℕ) (t j q x n p left : ℕ) : Type 0 where
-  pub from : 5 * q ≤ p
-  pub leaves : left ≡ x / 3 ^ (p - 5 * q)
-  pub between : Between t xs j n p (5 * (q + 1))
+module _ {t : ℕ} {xs : List ℕ} {j e last at before n q : ℕ} (v : Scanning t xs j e last at before n q) (l : q < last) {m : ℕ} (c : m ≡ rank t xs (5 * (q + 1))) where
+  pub scan-past : m < j → Scanning t xs j e last (q + 1) m m (q + 1)
+  scan-past h = record { from = omega arith; to = omega arith; counted = c; between = later (v .between) c h; passed = λ k. absurd (omega arith) }
 
-pub walking : {xs : List ℕ} {t j n : ℕ} (q x : ℕ) → Between t xs j n (5 * q) (5 * (q + 1)) → Walking xs t j q x n (5 * q) x
-walking q x v = record { from = omega arith; leaves = rw (sub-self, pow-zero, div-one); between = v }
+  pub scan-stay : j ≤ m → Scanning t xs j e last at before m (q + 1)
+  scan-stay h = record { from = omega (arith, v .from); to = omega arith; counted = c; between = v .between; passed = λ k. go (decLe q at) }
+    where
+      go : Dec (q ≤ at) → j ≤ rank t xs (5 * (at + 1))
+      go (yes y) = let f : at ≡ q = omega (arith, v .from) in rw f (omega arith)
+      go (no y) = v .passed (omega arith)
 
-module _ {xs : List ℕ} {t j q x n p left : ℕ} (T : Tryte xs q x) (v : Walking xs t j q x n p left) where
-  here : getD xs p 0 ≡ left % 3
-  here =
-      let e : p ≡ 5 * q + (p - 5 * q) = omega (arith, v .from) in
-      rw (v .leaves) (ap (λ (k : ℕ). getD xs k 0) e ∙ digit-here T (p - 5 * q) (omega (arith, ordered (v .between))) (omega (arith, inside (v .between))))
+-- at the last tryte, all is passed or the search ends in it
+pub scan-done : {t : ℕ} {xs : List ℕ} {j e last at before n q : ℕ} → Scanning t xs j e last at before n q → q ≡ last → (at ≡ last → rank t xs e ≤ rank t xs (5 * (last + 1)))
+    → Between t xs j before (5 * at) (5 * (at + 1))
+scan-done {t} {xs} {j} {e} {last} {at} v ends h = sooner (v .between) (go (decLe last at))
+  where
+    go : Dec (last ≤ at) → j ≤ rank t xs (5 * (at + 1))
+    go (yes y) =
+        let f : at ≡ last = omega (arith, v .from, v .to) in
+        omega (arith, v .between, h f, ap (λ (k : ℕ). rank t xs (5 * (k + 1))) f)
+    go (no y) = v .passed (omega arith)
 
-  onward : {m : ℕ} → m ≡ rank t xs (p + 1) → m < j → Walking xs t j q x m (p + 1) (left / 3)
-  onward e h =
-      let d : p + 1 - 5 * q ≡ p - 5 * q + 1 = omega (arith, v .from) in
-      record { from = omega (arith, v .from); leaves = rw (v .leaves, one-less, d); between = later (v .between) e h }
+-- ---- the place of a trit in a tryte, as `place_in` counts it. Computed once over all trytes.
 
-  pub trit-found : left % 3 ≡ t → n + 1 ≡ j → Selected t xs j p
-  trit-found h e = record { inside = inside (v .between); holds = here ∙ h; ranked = omega (arith, v .between .counted) }
+abbrev pub counted-place : ℕ → ℕ → ℕ → ℕ
+counted-place x t k =
+    let a : ℕ = bit (eqb (x % 3) t) in
+    let b : ℕ = a + bit (eqb (x / 3 % 3) t) in
+    let c : ℕ = b + bit (eqb (x / 9 % 3) t) in
+    let d : ℕ = c + bit (eqb (x / 27 % 3) t) in
+    bit (ltb a k) + bit (ltb b k) + bit (ltb c k) + bit (ltb d k)
 
-  pub trit-hit : left % 3 ≡ t → (n + 1 ≡ j → ⊥) → Walking xs t j q x (n + 1) (p + 1) (left / 3)
-  trit-hit h o = onward (omega (arith, v .between .counted, rank-hit t xs p (inside (v .between)) (here ∙ h))) (omega (arith, v .between .below))
+abbrev place-test : ℕ → ℕ → ℕ → ℕ → Bool
+place-test x t i r = cond (ltb i (tryteCount t x 5)) (ltb r 5 && (eqb (x / 3 ^ r % 3) t && eqb (tryteCount t x r) i)) true
 
-  pub trit-miss : (left % 3 ≡ t → ⊥) → Walking xs t j q x n (p + 1) (left / 3)
-  trit-miss h = onward (omega (arith, v .between .counted, rank-miss t xs p (inside (v .between)) (λ e. h (sym here ∙ e)))) (v .between .below)
+place-right : ℕ → Bool
+unfolding tryteCount
+place-right x = every (λ t. every (λ i. place-test x t i (counted-place x t (suc i))) (run 0 5)) (run 0 3)
+
+all-places : every place-right (run 0 243) ≡ true
+unfolding place-right
+all-places = refl
+
+pub place-is : (x t k : ℕ) → x < 243 → t < 3 → 0 < k → k ≤ tryteCount t x 5 → PlaceIn x t k (counted-place x t k)
+unfolding place-right
+place-is x t zero hx ht pos most = absurd (omega arith)
+place-is x t (suc i) hx ht pos most =
+    let r : ℕ = counted-place x t (suc i) in
+    let passes : place-test x t i r ≡ true =
+    every-from (λ i. place-test x t i (counted-place x t (suc i))) 5
+    (every-from (λ t. every (λ i. place-test x t i (counted-place x t (suc i))) (run 0 5)) 3 (every-from place-right 243 all-places x hx) t ht) i (omega (arith, count-few t x 5)) in
+    let all = both-true (ltb r 5) _ (rw (lt-ltb i (tryteCount t x 5) (omega arith)) at passes) in
+    let rest = both-true (eqb (x / 3 ^ r % 3) t) _ (all .1) in
+    record { low = ltb-true r 5 (all .0); holds = eqb-true _ t (rest .0); ranked = omega (arith, eqb-true (tryteCount t x r) i (rest .1)) }

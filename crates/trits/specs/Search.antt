@@ -1,5 +1,5 @@
 -- What the functions of this crate hand to each other: a level of samples, and where the search for a trit stands. Assumes nothing.
-use Prim.Native.Nat.{ℕ, _+_, _*_, _/_, _≤_, _<_}
+use Prim.Native.Nat.{ℕ, _+_, _*_, _/_, _%_, _^_, _≤_, _<_}
 use mathlib.Core.Path.{_≡_}
 use mathlib.Core.List.{List}
 use lib.ListN.{length, getD}
@@ -29,6 +29,12 @@ pub record Tryte (xs : List ℕ) (q x : ℕ) : Type 0 where
   pub threes : Below 3 xs
   pub is : x ≡ getD (trytes xs) q 0
   pub low : x < 243
+
+-- The t number k of tryte x is its trit r.
+pub record PlaceIn (x t k r : ℕ) : Type 0 where
+  pub low : r < 5
+  pub holds : x / 3 ^ r % 3 ≡ t
+  pub ranked : tryteCount t x r + 1 ≡ k
 
 -- The t number j stands at place p or later and before place e, and n of t stand before p.
 pub record Between (t : ℕ) (xs : List ℕ) (j n p e : ℕ) : Type 0 where

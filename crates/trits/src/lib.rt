@@ -17,7 +17,7 @@ ghost use Rattle.format.specs.Proper.{checkImage, tritsOf};
 ghost use Rattle.format.specs.Answers.{foundPlace};
 ghost use Rattle.format.proofs.ImageReads.{read};
 ghost use Rattle.trits.specs.Layout.{layout, layoutOf, Laid, farOf, middleOf, nearOf, totalOf};
-ghost use Rattle.trits.specs.Search.{Sampled, Tryte, Spotted, ranksOf, frontOf};
+ghost use Rattle.trits.specs.Search.{Sampled, Tryte, Spotted, PlaceIn, ranksOf, frontOf};
 
 // Zeros + 8 · ones of the five trits of every tryte.
 const TABLE: [u8; 243] = [
@@ -669,47 +669,64 @@ fn total(lay: Layout, t: usize) -> usize
     lay.shadows
 }
 
-// The tryte in which the `t` number `j` stands, from its block: at most five trytes.
+// The last of the five trytes from `first` on, or the last that there is.
+fn last_tryte(trits: usize, first: usize) -> usize
+    requires { ⌜ (5 * first < trits) × (trits ≤ 125536) ⌝ }
+    ensures { λ r. ⌜ (first ≤ r) × (r ≤ first + 4) × (5 * r < trits) × (r < first + 4 → trits ≤ 5 * (r + 1)) ⌝ }
+{
+    let last = (trits - 1) / 5;
+    if first + 4 < last {
+        return first + 4;
+    }
+    last
+}
+
+// The tryte in which the `t` number `j` stands, from its block. All five are looked at, so that no branch is to be guessed.
 fn find_tryte(image: &[u8], table: &[u8; 243], lay: Layout, t: usize, j: usize, s: Spot) -> Spot
     requires { ⌜ (Laid (now image) lay) × (now table ≡ tryteTable) × (t < 3) × (Spotted 25 t (tritsOf (now image)) j s) ⌝ }
     ensures { λ r. ⌜ Spotted 5 t (tritsOf (now (image .entry))) j r ⌝ }
 {
     let block = s.at;
-    let mut n = s.before;
-    let mut q = 5 * block;
-    loop {
+    let trits = lay.trits;
+    let first = 5 * block;
+    let last = last_tryte(trits, first);
+    let mut at = first;
+    let mut before = s.before;
+    let mut n = before;
+    let mut q = first;
+    while q < last {
         let x = tryte(image, lay, q);
-        let more = n + tryte_count(table, x, t);
-        if j <= more {
-            return Spot { at: q, before: n };
-        }
-        n = more;
+        n += tryte_count(table, x, t);
         q += 1;
+        if n < j {
+            at = q;
+            before = n;
+        }
     }
+    Spot { at, before }
 }
 
-// The place of the `t` number `j`, from its tryte: at most five trits.
+// The place of the `t` number `k` in tryte `x`: how many of its trits, but the last, have fewer than `k` up to themselves.
+fn place_in(x: usize, t: usize, k: usize) -> usize
+    requires { ⌜ (x < 243) × (t < 3) × (0 < k) × (k ≤ tryteCount t x 5) ⌝ }
+    ensures { λ r. ⌜ PlaceIn x t k r ⌝ }
+{
+    let a = (x % 3 == t) as usize;
+    let b = a + (x / 3 % 3 == t) as usize;
+    let c = b + (x / 9 % 3 == t) as usize;
+    let d = c + (x / 27 % 3 == t) as usize;
+    (a < k) as usize + (b < k) as usize + (c < k) as usize + (d < k) as usize
+}
+
+// The place of the `t` number `j`, from its tryte.
 fn find_trit(image: &[u8], lay: Layout, t: usize, j: usize, s: Spot) -> usize
-    requires { ⌜ (Laid (now image) lay) × (Spotted 5 t (tritsOf (now image)) j s) ⌝ }
+    requires { ⌜ (Laid (now image) lay) × (t < 3) × (Spotted 5 t (tritsOf (now image)) j s) ⌝ }
     ensures { λ r. ⌜ Selected t (tritsOf (now (image .entry))) j r ⌝ }
 {
     let q = s.at;
+    let before = s.before;
     let x = tryte(image, lay, q);
-    let mut left = x;
-    let mut n = s.before;
-    let mut p = 5 * q;
-    loop {
-        let trit = left % 3;
-        let here = p;
-        left /= 3;
-        p += 1;
-        if trit == t {
-            n += 1;
-            if n == j {
-                return here;
-            }
-        }
-    }
+    5 * q + place_in(x, t, j - before)
 }
 
 // The place of the `t` number `j`, where there is one: through the levels to its block, its tryte and itself.

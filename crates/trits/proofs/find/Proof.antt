@@ -36,5 +36,5 @@ find-spec =
     (λ c κs. search needs)
     near-requires
     tryte-requires
-    (λ c κs. (c .before .before .before .before .before .before .before .before .pre .0, c .find-tryte .ensures))
+    (λ c κs. let x = c .before .before .before .before .before .before .before .before in (x .pre .0, x .pre .2, c .find-tryte .ensures))
     (λ c. c .find-trit .ensures))

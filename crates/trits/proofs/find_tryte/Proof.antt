@@ -1,39 +1,63 @@
--- `trits::find_tryte` meets its contract: the loop keeps the search between tryte q and the block's end. Assumes nothing.
-use Prim.Native.Nat.{_+_, _-_, _*_}
+-- `trits::find_tryte` meets its contract: the loop keeps `Scanning`. Assumes nothing.
+use Prim.Native.Nat.{ℕ, _+_, _-_, _*_, _≤_, _<_}
 use native.Mathlib.Omega.{arith}
+use native.Mathlib.Decide.{decLe}
 use mathlib.Core.Path.{_≡_}
+use mathlib.Core.List.{List}
+use lib.ListN.{length}
+use Rattle.format.specs.Trits.{rank}
 use Rattle.format.specs.Proper.{tritsOf}
-use Rattle.trits.specs.Search.{Between}
+use Rattle.format.proofs.Laws.{rank-past, rank-mono, rank-count}
 use Rattle.trits.proofs.Levels.{few}
-use Rattle.trits.proofs.Searching.{inside, ordered, rank-few}
-use Rattle.trits.proofs.Trytes.{in-tryte, past-tryte}
+use Rattle.trits.proofs.Searching.{inside, rank-few}
+use Rattle.trits.proofs.Trytes.{Scanning, scan-past, scan-stay, scan-done, rank-next, trits-is}
 use Rattle.trits.proofs.find_tryte.Statement.{statement}
 use Rattle.trits.proofs.find_tryte.Tie as tie
 
 abbrev Inv-loop : tie.InvT-loop
-Inv-loop image table lay t j block n₀ q₀ n q = Between t (tritsOf image) j n (5 * q) (25 * (block + 1))
+Inv-loop image table lay t j block trits first last at₀ before₀ n₀ q₀ at before n q = Scanning t (tritsOf image) j (25 * (block + 1)) last at before n q
 
 abbrev μ-loop : tie.MeasureT-loop
-μ-loop image table lay t j block n₀ q₀ n q = 25 * (block + 1) - 5 * q
+μ-loop image table lay t j block trits first last at₀ before₀ n₀ q₀ at before n q = last - q
 
 loop-holds : tie.Need-loop-holds Inv-loop μ-loop
-loop-holds c = let x = c .before in let e : 5 * (5 * x .args .s .at) ≡ 25 * x .args .s .at = omega arith in rw e (x .pre .3)
+loop-holds c =
+    let x = c .before .before in
+    let P = x .pre .3 in
+    let e : 5 * (5 * x .args .s .at) ≡ 25 * x .args .s .at = omega arith in
+    record {
+      from = omega arith;
+      to = omega (arith, c .last-tryte .ensures);
+      counted = rw e (P .counted);
+      between = rw e P;
+      passed = λ k. absurd (omega arith);
+    }
 
-add-more : tie.Need-add-more Inv-loop μ-loop
-add-more c =
-    let x = c .before .before .before .before in
-    let l = c .before .before .loop in
-    omega (arith, l .inv, rank-few (x .pre .0 .whole) (x .args .t) (5 * l .q))
+-- one tryte more
+next : (c : tie.After-tryte-count Inv-loop μ-loop) → let x = c .before .before .before .before .before .before in
+    let l = c .before .before .before .loop in l .n + c .tryte-count .result ≡ rank (x .args .t) (tritsOf (x .args .image .now)) (5 * (l .q + 1))
+next c =
+    let s = c .before .before .before in
+    let x = s .before .before .before in
+    omega (arith, s .loop .inv .counted, c .tryte-count .ensures .0, rank-next (c .before .tryte .ensures) (x .args .t) (omega (arith, s .before .last-tryte .ensures, trits-is (x .pre .0))))
+
+-- the last tryte ends the block, or all trits
+through : (t : ℕ) (xs : List ℕ) (block last : ℕ) → last ≤ 5 * block + 4 → (last < 5 * block + 4 → length xs ≤ 5 * (last + 1)) → rank t xs (25 * (block + 1)) ≤ rank t xs (5 * (last + 1))
+through t xs block last h short = go (decLe (5 * block + 4) last)
+  where
+    go : Dec (5 * block + 4 ≤ last) → rank t xs (25 * (block + 1)) ≤ rank t xs (5 * (last + 1))
+    go (yes y) = rank-mono t xs (25 * (block + 1)) (5 * (last + 1)) (omega arith)
+    go (no y) = omega (arith, rank-past t xs (5 * (last + 1)) (short (omega arith)), rank-count t xs (25 * (block + 1)))
 
 returns : tie.Need-returns Inv-loop μ-loop
 returns c =
-    let count = c .before .tryte-count .ensures .0 in
-    in-tryte (c .before .before .tryte .ensures) (c .before .before .before .loop .inv) (rw count at (c .if1 .taken))
-
-loop-again : tie.Need-loop-again Inv-loop μ-loop
-loop-again c =
-    let count = c .before .tryte-count .ensures .0 in
-    rw count (past-tryte (c .before .before .tryte .ensures) (c .before .before .before .loop .inv) (rw count at (c .if1 .left)))
+    let l = c .before in
+    let x = l .before .before .before in
+    let xs = tritsOf (x .args .image .now) in
+    let t = x .args .t in
+    let last = l .before .last-tryte .result in
+    scan-done (l .loop .inv) (omega (arith, l .loop .inv .to))
+    (λ e. through t xs (x .args .s .at) last (l .before .last-tryte .ensures .1) (λ h. rw (trits-is (x .pre .0)) at (l .before .last-tryte .ensures .3 h)))
 
 pub find-tryte-spec : {M : Type 1} → statement M
 find-tryte-spec =
@@ -41,12 +65,15 @@ find-tryte-spec =
     (tie.spec
     Inv-loop
     μ-loop
-    (λ c. omega (arith, few (c .before .pre .0 .whole), inside (c .before .pre .3)))
+    (λ c. let x = c .before in omega (arith, few (x .pre .0 .whole), inside (x .pre .3)))
+    (λ c κs. let x = c .before in omega (arith, few (x .pre .0 .whole), inside (x .pre .3), trits-is (x .pre .0)))
     loop-holds
-    (λ c κs. (c .before .before .pre .0, inside (c .loop .inv)))
-    (λ c κs. let x = c .before .before .before in (x .pre .1, c .tryte .ensures .low, x .pre .2))
-    add-more
-    returns
-    (λ c. omega (arith, few (c .before .before .before .before .before .pre .0 .whole), inside (c .before .before .before .loop .inv)))
-    (λ c. omega (arith, ordered (c .before .before .before .loop .inv)))
-    loop-again)
+    (λ c κs. let x = c .before .before .before .before in (x .pre .0, omega (arith, c .before .before .last-tryte .ensures, trits-is (x .pre .0))))
+    (λ c κs. let x = c .before .before .before .before .before in (x .pre .1, c .tryte .ensures .low, x .pre .2))
+    (λ c. let x = c .before .before .before .before .before .before in omega (arith, next c, rank-few (x .pre .0 .whole) (x .args .t) (5 * (c .before .before .before .loop .q + 1))))
+    (λ c. let x = c .before .before .before .before .before .before in omega (arith, c .before .before .before .before .last-tryte .ensures, few (x .pre .0 .whole), trits-is (x .pre .0)))
+    (λ c. omega arith)
+    (λ c. scan-past (c .before .before .before .before .loop .inv) (c .before .before .before .loop-test .taken) (next (c .before)) (c .if1 .taken))
+    (λ c. omega arith)
+    (λ c. scan-stay (c .before .before .before .before .loop .inv) (c .before .before .before .loop-test .taken) (next (c .before)) (c .if1 .left))
+    returns)

@@ -5,7 +5,8 @@ use mathlib.Core.Path.{sym, ap, _∙_}
 use lib.Dec.{lit<}
 use lib.ListN.{length}
 use Rattle.format.specs.Proper.{tritsOf}
-use Rattle.asking.proofs.KindLaws.{trits-is, zero-there, operand-zero, operand-outside, operand-end, operand-other, operand-there}
+use Rattle.trits.proofs.Trytes.{trits-is}
+use Rattle.asking.proofs.KindLaws.{zero-there, operand-zero, operand-outside, operand-end, operand-other, operand-there}
 use Rattle.asking.proofs.question.operand.Statement.{statement}
 use Rattle.asking.proofs.question.operand.Tie as tie
 

@@ -6,7 +6,8 @@ use Rattle.format.specs.Proper.{tritsOf}
 use Rattle.format.specs.Question.{plain, answer}
 use Rattle.format.proofs.Laws.{rank-count, count-le}
 use Rattle.format.proofs.Replies.{rank-reply, rank-32, rank-33}
-use Rattle.asking.proofs.KindLaws.{right, trits-is}
+use Rattle.trits.proofs.Trytes.{trits-is}
+use Rattle.asking.proofs.KindLaws.{right}
 use Rattle.asking.proofs.question.ranked.Statement.{statement}
 use Rattle.asking.proofs.question.ranked.Tie as tie
 

@@ -5,7 +5,8 @@ use mathlib.Core.List.{[]}
 use Rattle.format.specs.Proper.{tritsOf}
 use Rattle.format.specs.Question.{plain, answer}
 use Rattle.format.proofs.Replies.{trit-reply, trit-32, trit-33}
-use Rattle.asking.proofs.KindLaws.{right, trits-is}
+use Rattle.trits.proofs.Trytes.{trits-is}
+use Rattle.asking.proofs.KindLaws.{right}
 use Rattle.asking.proofs.question.trit.Statement.{statement}
 use Rattle.asking.proofs.question.trit.Tie as tie
 
