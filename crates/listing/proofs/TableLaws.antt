@@ -17,7 +17,7 @@ use Rattle.format.specs.Image.{fromBytes, nodeCount, markedNodes, marked, image
 use Rattle.format.specs.Proper.{checkImage, tritsOf, shadowsOf}
 use Rattle.format.specs.Answers.{Numbers, refusalNumber, packedNumbers, stops, done}
 use Rattle.format.specs.Packing.{imageOf, Accepted, PackOutcome, packOutcome, packLeaves, RoomEnough}
-use Rattle.format.specs.Listing.{listing, refusal, tableText, listingText, listingOutcome, listingLeaves}
+use Rattle.format.specs.Listing.{listing, refusal, tableText, listingText, ListingOutcome, listingOutcome, listingLeaves}
 use Rattle.format.specs.declared.Refusal.{Refusal}
 use Rattle.format.specs.declared.Packed.the-variants as packed
 use Rattle.format.proofs.Digits.{length-gather, gather-at}
@@ -143,3 +143,14 @@ module _ (input : List ℕ) {text word : List ℕ} (e : listingText input ≡ wo
       let s = ap length e ∙ sym (w .ends ∙ zero-add (length word)) in
       let b = ap (λ (l : List ℕ). over l text) e ∙ sym (w .are ∙ ap (λ (k : ℕ). word ++ drop k text) (zero-add (length word))) in
       λ i. record { size = s i; buffer = b i }
+
+-- the text lies within the buffer
+pub text-inside : (input text : List ℕ) {size : ℕ} {now : List ℕ} → listingOutcome input text ≡ listingLeaves size now → size ≤ length now
+unfolding listingOutcome
+text-inside input text e =
+    omega (
+      arith,
+      ap (λ (o : ListingOutcome). o .size) e,
+      ap (λ (o : ListingOutcome). length (o .buffer)) e,
+      length-append (listingText input) (drop (length (listingText input)) text),
+    )
