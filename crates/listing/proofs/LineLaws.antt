@@ -18,7 +18,7 @@ use Rattle.format.proofs.Sums.{edges-shadows}
 use Rattle.format.proofs.Outcomes.{kind-3, kind-4, kind-5, kind-6}
 use Rattle.trits.specs.declared.Layout.{Layout}
 use Rattle.trits.specs.Layout.{Laid, layoutOf}
-use Rattle.listing.specs.Wrote.{Room, Wrote, field, three}
+use Rattle.listing.specs.Wrote.{Room, field, three}
 use Rattle.listing.specs.Neighbours.{star, neighbourText, neighbourAt, neighbours}
 use Rattle.listing.proofs.TextLaws.{Left, begin, begin-two, partsFrom, parts-all}
 

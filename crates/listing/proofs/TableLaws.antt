@@ -1,22 +1,22 @@
 -- A table out of the bytes of the input, and what packing it says. Assumes nothing.
-use Prim.Native.Nat.{ℕ, zero, suc, _+_, _*_, _/_, _%_, _≤_, _<_}
+use Prim.Native.Nat.{ℕ, _+_, _*_, _/_, _%_, _≤_, _<_}
 use native.Mathlib.Nat.{zero-add}
 use native.Mathlib.Omega.{arith}
 use mathlib.Core.Path.{_≡_, refl, sym, ap, _∙_, subst}
 use mathlib.Core.Logic.{_⊎_}
 use mathlib.Core.Bool.{Bool, true, false, cond}
-use mathlib.Core.List.{List, [], _∷_, _++_, map}
+use mathlib.Core.List.{List, _++_}
 use lib.Dec.{T}
 use lib.ListN.{length, getD, take, drop, length-append}
 use lib.Seq.{take-append-seam}
 use borrow.Author.Tests.{eq-eqb, le-leb}
-use Rattle.format.specs.Lists.{oneTo, over, up}
+use Rattle.format.specs.Lists.{oneTo, over}
 use Rattle.format.specs.Table.{Graph, nodes, edges, Read, faulty, graph, readTable}
 use Rattle.format.specs.Level.{walk, reached}
 use Rattle.format.specs.Image.{fromBytes, nodeCount, markedNodes, marked, image}
 use Rattle.format.specs.Proper.{checkImage, tritsOf, shadowsOf}
-use Rattle.format.specs.Answers.{Numbers, refusalNumber, packedNumbers, stops, done}
-use Rattle.format.specs.Packing.{imageOf, Accepted, PackOutcome, packOutcome, packLeaves, RoomEnough}
+use Rattle.format.specs.Answers.{refusalNumber}
+use Rattle.format.specs.Packing.{imageOf, Accepted, PackOutcome, packOutcome, packLeaves}
 use Rattle.format.specs.Listing.{listing, refusal, tableText, listingText, ListingOutcome, listingOutcome, listingLeaves}
 use Rattle.format.specs.declared.Refusal.{Refusal}
 use Rattle.format.specs.declared.Packed.the-variants as packed

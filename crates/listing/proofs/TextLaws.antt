@@ -1,9 +1,9 @@
 -- A text is written word after word: what is left of it is written next. Assumes nothing.
-use Prim.Native.Nat.{ℕ, zero, suc, _+_, _-_, _*_, _/_, _%_, _≤_, _<_, zero-le}
+use Prim.Native.Nat.{ℕ, suc, _+_, _-_, _/_, _%_, _≤_, _<_, zero-le}
 use native.Mathlib.Nat.{add-zero, sub-zero}
 use native.Mathlib.Numerals.{add-one}
 use native.Mathlib.Omega.{arith}
-use mathlib.Core.Path.{_≡_, refl, sym, ap, _∙_, subst}
+use mathlib.Core.Path.{_≡_, sym, ap, _∙_}
 use mathlib.Core.Bool.{Bool, true, false}
 use mathlib.Core.List.{List, [], _∷_, _++_, map, append-assoc, append-nil}
 use lib.ListN.{length, getD, take, drop, set, length-append}
@@ -12,7 +12,6 @@ use lib.Dec.{ltb}
 use borrow.Author.Tests.{lt-ltb, le-ltb}
 use Rattle.format.specs.Lists.{run, oneTo, join}
 use Rattle.format.specs.Listing.{text, decimalIn, decimal, newline, refusal}
-use Rattle.little.specs.Put.{putAt}
 use Rattle.little.proofs.Laws.{put-more, length-put}
 use Rattle.listing.specs.Wrote.{Room, Wrote, field}
 

@@ -10,8 +10,7 @@ use packing::pack::pack;
 use proper::check::Examined;
 use proper::check::examine;
 ghost use mathlib.Core.Path.{_≡_};
-ghost use mathlib.Core.List.{_++_};
-ghost use Prim.Native.Nat.{_*_, _/_, _%_, _≤_};
+ghost use Prim.Native.Nat.{_*_, _%_, _≤_};
 ghost use lib.ListN.{length};
 ghost use Rattle.format.specs.Lists.{over};
 ghost use Rattle.format.specs.Table.{readTable};
@@ -28,8 +27,8 @@ fn put_listing(text: &mut [u8], image: &[u8]) -> usize
     let Examined::Proper(lay) = examine(image) else {
         return 0;
     };
+    let end = lines::put_counts(text, image, lay);
     let table = trits::tryte_table();
-    let end = lines::put_counts(text, image, &table, lay);
     lines::put_nodes(text, end, image, &table, lay)
 }
 

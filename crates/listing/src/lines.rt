@@ -11,10 +11,10 @@ ghost use mathlib.Core.List.{_++_, map};
 ghost use Prim.Native.Nat.{_≤_, _<_};
 ghost use Rattle.format.specs.Lists.{oneTo, join};
 ghost use Rattle.format.specs.Image.{nodeCount};
-ghost use Rattle.format.specs.Proper.{tritsOf, shadowsOf};
-ghost use Rattle.format.specs.Question.{answer};
+ghost use Rattle.format.specs.Proper.{checkImage, tritsOf, shadowsOf};
 ghost use Rattle.format.specs.Answers.{answerNumbers};
 ghost use Rattle.format.specs.Listing.{nodeLine, countLine};
+ghost use Rattle.trits.specs.Layout.{layoutOf};
 ghost use Rattle.listing.specs.Wrote.{Room, Wrote};
 ghost use Rattle.listing.specs.Neighbours.{Asking, neighbourText, neighbours};
 
@@ -120,8 +120,8 @@ pub fn put_nodes(text: &mut [u8], at: usize, image: &[u8], table: &[u8; 243], la
 }
 
 // Puts the first line, of counts.
-pub fn put_counts(text: &mut [u8], image: &[u8], table: &[u8; 243], lay: Layout) -> usize
-    requires { ⌜ (Asking (now image) (now table) lay) × Room (now text) 0 (countLine (tritsOf (now image)) (shadowsOf (now image))) ⌝ }
+pub fn put_counts(text: &mut [u8], image: &[u8], lay: Layout) -> usize
+    requires { ⌜ (checkImage (now image) ≡ 0) × (lay ≡ layoutOf (now image)) × Room (now text) 0 (countLine (tritsOf (now image)) (shadowsOf (now image))) ⌝ }
     ensures { λ r. ⌜ Wrote (now (text .entry)) 0 (countLine (tritsOf (now (image .entry))) (shadowsOf (now (image .entry)))) r (now (text .exit)) ⌝ }
 {
     let edges = lay.nodes + lay.shadows - lay.roots;

@@ -1,6 +1,5 @@
 // Writes words and numbers into a text, each from a place on, and answers the place where it ends.
 ghost use mathlib.Core.List.{[], _∷_};
-ghost use mathlib.Core.Path.{_≡_};
 ghost use Prim.Native.Nat.{_+_, _<_};
 ghost use Rattle.format.specs.Listing.{decimalIn, decimal, refusal};
 ghost use Rattle.format.specs.Answers.{refusalNumber};

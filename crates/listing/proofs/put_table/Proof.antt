@@ -3,7 +3,7 @@ use Prim.Native.Nat.{ℕ, _≤_}
 use native.Mathlib.Omega.{arith}
 use mathlib.Core.Path.{_≡_, sym, ap, _∙_, subst}
 use borrow.Author.Needs.{needs}
-use lib.ListN.{length, take, length-take, replicate, length-replicate}
+use lib.ListN.{length, take, length-take, length-replicate}
 use Rattle.format.specs.Table.{readTable}
 use Rattle.format.specs.Answers.{refusalNumber}
 use Rattle.format.specs.Packing.{packLeaves}
@@ -15,9 +15,9 @@ use Rattle.listing.proofs.TableLaws.{refused-text, Packs, packs}
 use Rattle.listing.proofs.put_table.Statement.{statement}
 use Rattle.listing.proofs.put_table.Tie as tie
 
-refused : (c : tie.After-f)
-    → refusal (refusalNumber (c .f .given .0 .0))
-    ≡ tableText (readTable (c .before .before .before .before .before .before .before .before .before .before .before .args .table .now))
+refused : (c : tie.After-f) → let p = c .before .before .before .before .before in
+    refusal (refusalNumber (c .f .given .0 .0))
+    ≡ tableText (readTable (p .before .before .before .before .before .before .args .table .now))
 refused c =
     let p = c .before .before .before .before .before in
     let x = p .before .before .before .before .before .before in
@@ -45,14 +45,16 @@ put-table-spec =
     (λ c. search needs)
     (λ c κs.
     let f = c .before .before in
-    subst (Room _ 0) (sym (refused f)) (f .before .before .before .before .before .before .before .before .before .before .before .pre .1))
+    let p = f .before .before .before .before .before in
+    subst (Room _ 0) (sym (refused f)) (p .before .before .before .before .before .before .pre .1))
     (λ c. search needs)
     (λ c. packed (c .before .before) .0)
     (λ c. simp length-take (omega (arith, packed (c .before .before .before) .0)))
     (λ c κs.
     let s = c .before .before .before in
+    let p = s .before .before .before .before .before in
     let q = packed s .1 in
-    (q .passes, subst (Room _ 0) (sym (q .text)) (s .before .before .before .before .before .before .before .before .before .before .before .pre .1)))
+    (q .passes, subst (Room _ 0) (sym (q .text)) (p .before .before .before .before .before .before .pre .1)))
     (λ c. search needs)
     (λ c.
     let w = c .before .before in

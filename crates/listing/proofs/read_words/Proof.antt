@@ -2,7 +2,6 @@
 use Prim.Native.Nat.{_-_}
 use native.Mathlib.Omega.{arith}
 use mathlib.Core.Path.{sym, _∙_}
-use borrow.Author.Needs.{needs}
 use Rattle.format.specs.Image.{fromBytes}
 use Rattle.packing.proofs.OverLaws.{Over, over-none, over-length, over-next, over-done}
 use Rattle.listing.proofs.TableLaws.{words-many, word-at}

@@ -1,6 +1,5 @@
 -- `lines::put_neighbour` meets its contract. Assumes nothing.
-use native.Mathlib.Omega.{arith}
-use mathlib.Core.List.{List, [], _∷_}
+use mathlib.Core.List.{[], _∷_}
 use borrow.Author.Needs.{needs}
 use Rattle.format.specs.Answers.{answerNumbers}
 use Rattle.listing.specs.Neighbours.{star, neighbourText}

@@ -49,7 +49,10 @@ put-neighbours-spec =
     let v = s .before .before in
     begin-neighbours _ _ _ (v .value .ensures ∙ ap (λ (r : Reply). r .value) (v .before .answer .ensures)) (fits (marked s)))
     (λ c. search needs)
-    (λ c κs. let p = c .before .before .before .before .before .before .before .before .before .before .before .pre .0 in (p .proper, p .trytes, p .laid))
+    (λ c κs.
+    let w = c .before .before .before .before in
+    let p = w .before .before .before .before .before .before .before .pre .0 in
+    (p .proper, p .trytes, p .laid))
     (λ c κs. fits (turn (c .before)))
     (λ c. omega arith)
     (λ c. let w = c .before .before in next (turn (w .before .before)) (w .put-neighbour .ensures))

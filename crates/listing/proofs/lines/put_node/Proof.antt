@@ -1,6 +1,5 @@
 -- `lines::put_node` meets its contract. Assumes nothing.
 use mathlib.Core.List.{[], _∷_}
-use Prim.Native.Nat.{_<_}
 use native.Mathlib.Omega.{arith}
 use borrow.Author.Needs.{needs}
 use Rattle.format.specs.Proper.{tritsOf, shadowsOf}
@@ -11,7 +10,9 @@ use Rattle.listing.proofs.lines.put_node.Statement.{statement}
 use Rattle.listing.proofs.lines.put_node.Tie as tie
 
 -- the end of the line is left
-listed : (c : tie.After-put-neighbours2) → let x = c .before .before .before .before .before .before .before .before .before .before .before .before .before .before .args in
+listed : (c : tie.After-put-neighbours2) → let o = c .before .before .before .before .before in
+    let d = o .before .before .before .before .before in
+    let x = d .before .before .before .before .args in
     Left (x .text .now) (x .at) (nodeLine (tritsOf (x .image .now)) (shadowsOf (x .image .now)) (x .i)) (c .put-neighbours2 .last .0) (c .put-neighbours2 .result) (newline ∷ [])
 listed c =
     let o = c .before .before .before .before .before in

@@ -1,9 +1,8 @@
 -- `lines::put_nodes` meets its contract: after i turns the lines after line i are left. Assumes nothing.
-use Prim.Native.Nat.{_+_, _-_, _≤_}
+use Prim.Native.Nat.{_-_, _≤_}
 use native.Mathlib.Omega.{arith}
 use mathlib.Core.Path.{refl}
-use mathlib.Core.List.{_∷_, map}
-use borrow.Author.Needs.{needs}
+use mathlib.Core.List.{map}
 use Rattle.format.specs.Lists.{oneTo, join}
 use Rattle.format.specs.Image.{nodeCount}
 use Rattle.format.specs.Proper.{tritsOf, shadowsOf}

@@ -1,7 +1,7 @@
 -- `text::put_field` meets its contract. Assumes nothing.
 use borrow.Author.Needs.{needs}
 use Rattle.format.specs.Listing.{decimal}
-use Rattle.listing.proofs.TextLaws.{Left, begin-two, fits, next, finish}
+use Rattle.listing.proofs.TextLaws.{begin-two, fits, next, finish}
 use Rattle.listing.proofs.text.put_field.Statement.{statement}
 use Rattle.listing.proofs.text.put_field.Tie as tie
 

@@ -1,9 +1,8 @@
 -- `text::put_three` meets its contract. Assumes nothing.
 use mathlib.Core.Path.{refl}
-use mathlib.Core.List.{List, [], _∷_}
-use Prim.Native.Nat.{ℕ}
+use mathlib.Core.List.{[], _∷_}
 use borrow.Author.Needs.{needs}
-use Rattle.listing.specs.Wrote.{Room, field, three}
+use Rattle.listing.specs.Wrote.{field, three}
 use Rattle.listing.proofs.TextLaws.{Left, begin, fits, next, finish}
 use Rattle.listing.proofs.text.put_three.Statement.{statement}
 use Rattle.listing.proofs.text.put_three.Tie as tie
