@@ -1,5 +1,6 @@
 -- `lines::put_neighbour` meets its contract. Assumes nothing.
 use mathlib.Core.List.{[], _∷_}
+use native.Mathlib.Omega.{arith}
 use borrow.Author.Needs.{needs}
 use Rattle.format.specs.Answers.{answerNumbers}
 use Rattle.listing.specs.Neighbours.{star, neighbourText}
@@ -32,12 +33,12 @@ put-neighbour-spec =
     (λ c κs.
     let t = c .before .before in
     let s = t .before in
-    fits (shadow-left (s .sort .ensures) (node (s .before .before .before)) (t .if1 .taken)))
+    fits (shadow-left (s .sort .ensures) (node (s .before .before .before)) (omega (arith, t .if1 .taken))))
     (λ c. search needs)
     (λ c.
     let w = c .before .before in
     let t = w .before .before .before in
     let s = t .before in
-    finish (next (shadow-left (s .sort .ensures) (node (s .before .before .before)) (t .if1 .taken)) (w .put-word .ensures)))
+    finish (next (shadow-left (s .sort .ensures) (node (s .before .before .before)) (omega (arith, t .if1 .taken))) (w .put-word .ensures)))
     (λ c. search needs)
     (λ c. let s = c .before in finish (real-left (s .sort .ensures) (node (s .before .before .before)) (c .if1 .left))))
