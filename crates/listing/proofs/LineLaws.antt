@@ -27,18 +27,23 @@ use Rattle.listing.proofs.TextLaws.{Left, begin, begin-two, partsFrom, 
 pub begin-neighbour : (r : Reply) {v : ℕ} {words : List ℕ} {at : ℕ} → v ≡ r .value → Room words at (neighbourText r)
     → Left words at (neighbourText r) words at (field (text " ") v ∷ star (r .sort) ∷ [])
 unfolding neighbourText
-begin-neighbour r {v} e room =
-    begin (field (text " ") v ∷ star (r .sort) ∷ []) (rw (e, append-nil)) room
+begin-neighbour r {v} e room = begin (field (text " ") v ∷ star (r .sort) ∷ []) (rw (e, append-nil)) room
 
 module _ {was : List ℕ} {at : ℕ} {whole now : List ℕ} {end s k : ℕ} (e : k ≡ s) (l : Left was at whole now end (star s ∷ [])) where
   pub shadow-left : k ≡ 2 → Left was at whole now end (text "*" ∷ [])
   shadow-left h = rw (eq-eqb s 2 (sym e ∙ h)) at l
 
   pub real-left : (k ≡ 2 → ⊥) → Left was at whole now end []
-  real-left h = let m : Left was at whole now end ([] ∷ []) = rw (ne-eqb s 2 (λ z. h (e ∙ z))) at l in
+  real-left h =
+      let m : Left was at whole now end ([] ∷ []) = rw (ne-eqb s 2 (λ z. h (e ∙ z))) at l in
       record { done = m .done; is = m .is; room = m .room; wrote = m .wrote }
 
 -- ---- the neighbours of a node
+
+pub begin-neighbours : (image : List ℕ) (kind i : ℕ) {count : ℕ} {words : List ℕ} {at : ℕ} → count ≡ answer (tritsOf image) (shadowsOf image) kind i 0 .value
+    → Room words at (neighbours image kind i) → Left words at (neighbours image kind i) words at (partsFrom (neighbourAt image kind i) count 0)
+unfolding neighbours
+begin-neighbours image kind i {count} e r = begin (partsFrom (neighbourAt image kind i) count 0) (rw (← e) (parts-all (neighbourAt image kind i) count)) r
 
 shift : {A : Type 0} (g : ℕ → A) (a n : ℕ) → map g (run (suc a) n) ≡ map (λ (j : ℕ). g (suc j)) (run a n)
 shift g a zero = refl
@@ -73,17 +78,11 @@ module _ (image : List ℕ) (i : ℕ) (low : 1 ≤ i) (high : i ≤ nodeCount (t
   unfolding neighbourText userText
   users-are = neighbours-are image 5 i (useEdges ts hs i) userOr33 (kind-5 ts hs i low high) (kind-6 ts hs i low high)
 
-  -- ---- a line
-
+  -- the line of a node
   pub begin-node : {words : List ℕ} {at : ℕ} → Room words at (nodeLine ts hs i)
       → Left words at (nodeLine ts hs i) words at (decimal i ∷ (text ":" ++ neighbours image 3 i) ∷ (text " |" ++ neighbours image 5 i) ∷ newline ∷ [])
   unfolding nodeLine
   begin-node r = begin (decimal i ∷ (text ":" ++ neighbours image 3 i) ∷ (text " |" ++ neighbours image 5 i) ∷ newline ∷ []) (rw (operands-are, users-are)) r
-
-pub begin-neighbours : (image : List ℕ) (kind i : ℕ) {count : ℕ} {words : List ℕ} {at : ℕ} → count ≡ answer (tritsOf image) (shadowsOf image) kind i 0 .value
-    → Room words at (neighbours image kind i) → Left words at (neighbours image kind i) words at (partsFrom (neighbourAt image kind i) count 0)
-unfolding neighbours
-begin-neighbours image kind i {count} e r = begin (partsFrom (neighbourAt image kind i) count 0) (rw (← e) (parts-all (neighbourAt image kind i) count)) r
 
 -- ---- the lines of all nodes
 

@@ -1,9 +1,8 @@
--- A table out of the bytes of the input, and what packing it says. Assumes nothing.
+-- A table out of the bytes of the input, what packing it says, and the outcome. Assumes nothing.
 use Prim.Native.Nat.{ℕ, _+_, _*_, _/_, _%_, _≤_, _<_}
 use native.Mathlib.Nat.{zero-add}
 use native.Mathlib.Omega.{arith}
 use mathlib.Core.Path.{_≡_, refl, sym, ap, _∙_, subst}
-use mathlib.Core.Logic.{_⊎_}
 use mathlib.Core.Bool.{Bool, true, false, cond}
 use mathlib.Core.List.{List, _++_}
 use lib.Dec.{T}
@@ -13,7 +12,7 @@ use borrow.Author.Tests.{eq-eqb, le-leb}
 use Rattle.format.specs.Lists.{oneTo, over}
 use Rattle.format.specs.Table.{Graph, nodes, edges, Read, faulty, graph, readTable}
 use Rattle.format.specs.Level.{walk, reached}
-use Rattle.format.specs.Image.{fromBytes, nodeCount, markedNodes, marked, image}
+use Rattle.format.specs.Image.{fromBytes, nodeCount, markedNodes, marked}
 use Rattle.format.specs.Proper.{checkImage, tritsOf, shadowsOf}
 use Rattle.format.specs.Answers.{refusalNumber}
 use Rattle.format.specs.Packing.{imageOf, Accepted, PackOutcome, packOutcome, packLeaves}
@@ -31,9 +30,8 @@ use Rattle.format.proofs.Order.{counts}
 use Rattle.format.proofs.Sizes.{imageLength, length-image}
 use Rattle.format.proofs.Laws.{length-keep, length-run}
 use Rattle.format.proofs.Listed.{text-few}
-use Rattle.format.proofs.ListingLaws.{listing-gives}
-use Rattle.listing.specs.Wrote.{Room, Wrote}
 use Rattle.format.proofs.Promises.{checker-passes, trits-back}
+use Rattle.listing.specs.Wrote.{Room, Wrote}
 
 -- ---- words of two bytes
 
@@ -46,6 +44,7 @@ module _ (input : List ℕ) (even : length input % 2 ≡ 0) where
   unfolding fromBytes
   word-at i h = sym (gather-at 256 2 input i (omega arith))
 
+-- what was written over the front of a buffer
 pub front-is : (xs old : List ℕ) {k : ℕ} {l : List ℕ} → k ≡ length xs → l ≡ over xs old → take k l ≡ xs
 front-is xs old e w = rw (e, w) (take-append-seam xs (drop (length xs) old))
 
@@ -125,9 +124,6 @@ packs table order work buffer e =
     wrote-image table (r .of) (r .is) buffer (ap (λ (x : PackOutcome). x .returned .value) q) (ap (λ (x : PackOutcome). x .image) q)
 
 -- ---- the outcome
-
-pub text-wrong : (input : List ℕ) → (length input % 2 ≡ 0 → ⊥) ⊎ (8000 < length input) → listingText input ≡ refusal 61
-text-wrong input = listing-gives input .input-wrong
 
 pub text-table : (input : List ℕ) → length input % 2 ≡ 0 → length input ≤ 8000 → listingText input ≡ tableText (readTable (fromBytes 2 input))
 unfolding listingText

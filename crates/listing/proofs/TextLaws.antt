@@ -11,7 +11,7 @@ use lib.Seq.{take-all, paste, paste-zero, paste-suc, length-paste}
 use lib.Dec.{ltb}
 use borrow.Author.Tests.{lt-ltb, le-ltb}
 use Rattle.format.specs.Lists.{run, oneTo, join}
-use Rattle.format.specs.Listing.{text, decimalIn, decimal, newline, refusal}
+use Rattle.format.specs.Listing.{text, decimalIn, newline, refusal}
 use Rattle.little.proofs.Laws.{put-more, length-put}
 use Rattle.listing.specs.Wrote.{Room, Wrote, field}
 

@@ -9,7 +9,8 @@ use lib.ListN.{length, take, length-take}
 use Rattle.format.specs.Image.{fromBytes}
 use Rattle.format.specs.Table.{readTable}
 use Rattle.format.specs.Listing.{tableText, listingText}
-use Rattle.listing.proofs.TableLaws.{words-many, front-is, text-wrong, text-table, text-room, text-outcome}
+use Rattle.format.proofs.ListingLaws.{listing-gives}
+use Rattle.listing.proofs.TableLaws.{words-many, front-is, text-table, text-room, text-outcome}
 use Rattle.listing.proofs.listing.Statement.{statement}
 use Rattle.listing.proofs.listing.Tie as tie
 
@@ -33,10 +34,10 @@ pub listing-spec : {M : Type 1} → statement M
 listing-spec =
     tie.close
     (tie.spec
-    (λ c κs. text-room (c .before .before .before .args .input .now) (text-wrong _ (inl (c .before .if1 .taken))) (omega arith))
-    (λ c. text-outcome (c .before .before .before .before .args .input .now) (text-wrong _ (inl (c .before .before .if1 .taken))) (c .put-refusal .ensures))
-    (λ c κs. text-room (c .before .before .before .before .args .input .now) (text-wrong _ (inr (omega (arith, c .before .if2 .taken)))) (omega arith))
-    (λ c. text-outcome (c .before .before .before .before .before .args .input .now) (text-wrong _ (inr (omega (arith, c .before .before .if2 .taken)))) (c .put-refusal2 .ensures))
+    (λ c κs. text-room (c .before .before .before .args .input .now) (listing-gives _ .input-wrong (inl (c .before .if1 .taken))) (omega arith))
+    (λ c. text-outcome (c .before .before .before .before .args .input .now) (listing-gives _ .input-wrong (inl (c .before .before .if1 .taken))) (c .put-refusal .ensures))
+    (λ c κs. text-room (c .before .before .before .before .args .input .now) (listing-gives _ .input-wrong (inr (omega (arith, c .before .if2 .taken)))) (omega arith))
+    (λ c. text-outcome (c .before .before .before .before .before .args .input .now) (listing-gives _ .input-wrong (inr (omega (arith, c .before .before .if2 .taken)))) (c .put-refusal2 .ensures))
     (λ c. search needs)
     (λ c κs. whole (c .before))
     (λ c. let r = c .before .before in omega (arith, size r, length-take (r .read-words .result) (r .read-words .last .1 .0)))
