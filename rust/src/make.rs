@@ -89,6 +89,14 @@ pub fn used_by_all(n: usize, m: usize) -> Graph {
     }
 }
 
+/// n roots, of which the last uses 1, 2, .., n in turn, m times in all.
+/// L = 2n + m + 1.
+pub fn used_in_turn(n: usize, m: usize) -> Graph {
+    let mut graph = all_roots(n);
+    graph.operands[n - 1] = (0..m).map(|edge| 1 + edge % n).collect();
+    graph
+}
+
 /// A random graph of n nodes and m edges, with c roots that reach them all, in
 /// a random numbering: m must be at least n - c. L = n + m + c + 1.
 pub fn random(n: usize, m: usize, c: usize, rng: &mut Xorshift) -> Graph {

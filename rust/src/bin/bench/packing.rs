@@ -1,5 +1,5 @@
 //! glouds_pack beside the plain packer, and glouds_check beside glouds_pack:
-//! five shapes, five sizes.
+//! six shapes, five sizes.
 
 use crate::times::{self, Times};
 use glouds::make::{self, Xorshift};
@@ -12,7 +12,7 @@ const TRITS_A_TIMING: usize = 60_000;
 /// A shape: its name and the graph of about so many trits, at most the largest.
 type Shape = (&'static str, fn(usize) -> Graph);
 
-const SHAPES: [Shape; 5] = [
+const SHAPES: [Shape; 6] = [
     ("chain", |l| make::chain((l / 2).min(30_000))),
     ("all roots", |l| make::all_roots((l / 2).min(30_000))),
     ("random, shared operands", |l| {
@@ -25,6 +25,10 @@ const SHAPES: [Shape; 5] = [
         make::used_by_all(n, n * 65_535 / 30_000)
     }),
     ("loops on one node", |l| make::loops((l - 3).min(65_535))),
+    ("roots used in turn", |l| {
+        let n = (l * 30_000 / 125_535).min(30_000);
+        make::used_in_turn(n, n * 65_535 / 30_000)
+    }),
 ];
 
 /// Trits aimed at; the last is above every shape's largest.
