@@ -137,7 +137,7 @@ module _ {trits H : List ℕ} (P : ProperTrits trits H) where
   abbrev f : ℕ → ℕ
   f = key trits H
 
-  many : length G ≡ length H
+  pub many : length G ≡ length H
   many = length-grouped trits H (P .paired) (shadow-nodes trits H (P .paired) (P .seen))
 
   keys-rise : RisingFrom 131072 (map f G)
@@ -195,10 +195,10 @@ unfolding lowAt
 climbed-none = record { next = refl; right = below-none _ }
 
 -- numbers come back from bytes that are theirs
-number-in : (w : ℕ) {bs : List ℕ} (xs : List ℕ) → bs ≡ bytes w xs → Below (256 ^ w) xs → (i : ℕ) → i < length xs → read w (w * i) bs ≡ getD xs i 0
+pub number-in : (w : ℕ) {bs : List ℕ} (xs : List ℕ) → bs ≡ bytes w xs → Below (256 ^ w) xs → (i : ℕ) → i < length xs → read w (w * i) bs ≡ getD xs i 0
 number-in w xs e fits i l = ap (λ (b : List ℕ). read w (w * i) b) (e ∙ sym (append-nil (bytes w xs))) ∙ number-at w xs [] i l (fits i l)
 
-refuted : (b : Bool) → (b ≡ true → ⊥) → b ≡ false
+pub refuted : (b : Bool) → (b ≡ true → ⊥) → b ≡ false
 refuted true h = absurd (h refl)
 refuted false h = refl
 

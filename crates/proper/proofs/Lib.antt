@@ -10,5 +10,6 @@ pub mod StartLaws
 pub mod PairLaws
 pub mod TwoLaws
 pub mod KeyLaws
+pub mod IndexLaws
 pub mod PassedLaws
 pub mod OneAnswer

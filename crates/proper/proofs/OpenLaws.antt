@@ -1,8 +1,8 @@
 -- A section at the front of the bytes that are left: first its count and its room, then its contents, then what follows it. Assumes nothing.
 use Prim.Native.Nat.{ℕ, _+_, _≤_, _<_}
 use native.Mathlib.Omega.{arith}
-use mathlib.Core.Path.{_≡_, sym, ap, _∙_}
-use mathlib.Core.Bool.{Bool}
+use mathlib.Core.Path.{_≡_, refl, sym, ap, _∙_}
+use mathlib.Core.Bool.{Bool, true, false, _&&_}
 use mathlib.Core.List.{List, _∷_}
 use lib.Dec.{eqb, leb, lit<}
 use lib.ListN.{length, drop, length-drop}
@@ -71,6 +71,11 @@ module _ {s : Section} {entries size : ℕ} (F : Front s entries size) (b : List
   pub given-right : (t : Bool) → 0 ≡ opens 25 entries size b → t ≡ same (contentsOf size b) (s .contents) → fault 25 t ≡ givenFault s b
   given-right t e r = sym (given-is ∙ then-yes _ _ (sym e) ∙ ap (fault 25) (sym r))
 
+-- two tests with one fault are one
+fault-both : (a b : Bool) (x : ℕ) → (fault 25 (a && b) then x) ≡ (fault 25 a then fault 25 b then x)
+fault-both true b x = sym (then-yes 0 (fault 25 b then x) refl)
+fault-both false b x = then-no 25 x (lit< tt) ∙ sym (then-no 25 (fault 25 b then x) (lit< tt))
+
 -- a section, and those behind it
 module _ (s : Section) (ss : List Section) (b : List ℕ) where
   pub first-refused : (f : Refusal) → refusalNumber f ≡ givenFault s b → refusalNumber f ≡ checkGiven (s ∷ ss) b
@@ -80,3 +85,15 @@ module _ (s : Section) (ss : List Section) (b : List ℕ) where
   pub first-passed : {size : ℕ} → length (s .contents) ≡ size → 0 ≡ givenFault s b → (x : ℕ) → x ≡ checkGiven ss (restOf size b) → x ≡ checkGiven (s ∷ ss) b
   unfolding checkGiven
   first-passed z e x n = n ∙ sym (then-yes (givenFault s b) _ (sym e) ∙ ap (λ (k : ℕ). checkGiven ss (restOf k b)) z)
+
+  module _ {entries size : ℕ} (F : Front s entries size) (e : 0 ≡ opens 25 entries size b) {part : List ℕ} (ep : part ≡ contentsOf size b) where
+    -- where the front is open: its contents, then those behind it
+    pub first-open : {rest : List ℕ} → rest ≡ restOf size b → (fault 25 (same part (s .contents)) then checkGiven ss rest) ≡ checkGiven (s ∷ ss) b
+    unfolding checkGiven
+    first-open er = rw (given-is F b, then-yes _ _ (sym e), F .fills, ep, er)
+
+    -- a test before it, which has the same fault, and its contents together
+    pub both-open : (a t : Bool) → t ≡ (a && same part (s .contents)) → (fault 25 t then checkGiven ss (restOf size b)) ≡ (fault 25 a then checkGiven (s ∷ ss) b)
+    both-open a t et =
+        ap (λ (x : Bool). fault 25 x then checkGiven ss (restOf size b)) et ∙ fault-both a (same part (s .contents)) _
+        ∙ ap (λ (x : ℕ). fault 25 a then x) (first-open refl)

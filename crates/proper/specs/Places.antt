@@ -1,10 +1,13 @@
--- What the checker of section 5 counts and compares: the twos before a place, and the key by which the places rise. Assumes nothing.
+-- What the checker of sections 4 and 5 counts and compares: the twos before a place, the key by which the places rise, and a number. Assumes nothing.
 use Prim.Native.Nat.{ℕ, _+_, _*_, _/_, _≤_, _<_}
 use mathlib.Core.Path.{_≡_}
+use mathlib.Core.Bool.{Bool, _&&_}
 use mathlib.Core.List.{List}
+use lib.Dec.{eqb, leb}
 use lib.ListN.{length, getD}
 use Rattle.format.specs.Trits.{rank}
 use Rattle.format.specs.Image.{shadowAt}
+use Rattle.format.proofs.ImageReads.{read}
 use Rattle.proper.specs.declared.placed.Seat.{Seat}
 use Rattle.proper.specs.declared.placed.Entry.{Entry}
 use Rattle.proper.specs.declared.placed.Entry.the-variants.{Wrong, Key}
@@ -41,3 +44,7 @@ pub record Rises (trits H : List ℕ) (low p : ℕ) : Type 0 where
 abbrev pub Answered : List ℕ → List ℕ → ℕ → ℕ → Entry → Type 0
 Answered trits H low p Wrong = Rises trits H low p → ⊥
 Answered trits H low p (Key k s) = Rises trits H low p × (k ≡ key trits H p) × SeatOf trits p s
+
+-- a part of 4 bytes a number has number j, and that is x
+abbrev pub numberIs : List ℕ → ℕ → ℕ → Bool
+numberIs part j x = leb (4 * j + 4) (length part) && eqb (read 4 (4 * j) part) x

@@ -8,15 +8,17 @@ use format::Refusal;
 use little::get4;
 ghost use mathlib.Core.Path.{_≡_};
 ghost use mathlib.Core.List.{List, []};
-ghost use Prim.Native.Nat.{ℕ, _+_, _≤_};
+ghost use Prim.Native.Nat.{ℕ, _+_, _*_, _≤_};
 ghost use lib.ListN.{length};
+ghost use Rattle.format.specs.Faults.{fault, _then_};
+ghost use Rattle.format.specs.Lists.{same};
 ghost use Rattle.format.specs.Trits.{untrytes, tryteTable};
-ghost use Rattle.format.specs.Image.{nodeCount, given};
+ghost use Rattle.format.specs.Image.{bytes, nodeCount, markedNodes, starts, given};
 ghost use Rattle.format.specs.Proper.{contentsOf, restOf, givenFault, checkGiven, checkImage};
 ghost use Rattle.format.specs.Answers.{refusalNumber, checkedNumber};
 ghost use Rattle.samples.specs.Lent.{TritsIn};
 ghost use Rattle.trits.specs.Layout.{layoutOf};
-ghost use Rattle.proper.specs.Known.{Known, Marked};
+ghost use Rattle.proper.specs.Known.{Known, Shadowed, Marked};
 ghost use Rattle.proper.specs.Samples.{Level, levelOf};
 ghost use Rattle.proper.specs.Examined.{Examines, opens, laying, FirstPassed, Sized, Through, Counted, givenFrom, check2, shadows2};
 
@@ -154,20 +156,42 @@ fn from6(bs: &[u8], marks: &[u8], table: &[u8; 243], rest: &[u8], lay: trits::La
     from7(bs, marks, table, after(rest, size), lay)
 }
 
-// Sections 5 to 9.
-fn from5(bs: &[u8], hs: &[u8], marks: &[u8], rest: &[u8], lay: trits::Layout) -> Checked
-    requires { ⌜ ((trits : List ℕ) × (H : List ℕ) × Through trits H (now bs) (now hs) (now marks) lay) ⌝ }
+// Section 5's front has fault `f`, and section 4's contents (25) come before it.
+fn before5(hs: &[u8], marks: &[u8], firsts: &[u8], n: usize, f: Refusal) -> Checked
+    requires { ⌜ ((trits : List ℕ) × (H : List ℕ) × Shadowed trits H (now hs) × Marked trits H (now marks) × (nodeCount trits ≡ n)
+        × (length (now firsts) ≡ 4 * (length (markedNodes trits H) + 1))) ⌝ }
+    ensures { λ r. ⌜ ((trits H : List ℕ) → Shadowed trits H (now (hs .entry)) → Marked trits H (now (marks .entry)) → nodeCount trits ≡ n
+        → checkedNumber r ≡ (fault 25 (same (now (firsts .entry)) (bytes 4 (starts trits H))) then refusalNumber f)) ⌝ }
+{
+    let right = crate::started::starts_right(hs, marks, firsts, n);
+    if right {
+        return Checked::Refused(f);
+    }
+    Checked::Refused(Refusal::IndexWrong)
+}
+
+// Section 4's contents, then sections 5 to 9. Sections 4 and 5 are compared together: where section 5 is as long as it should be, their faults are one.
+fn from5(
+    bs: &[u8],
+    hs: &[u8],
+    marks: &[u8],
+    firsts: &[u8],
+    rest: &[u8],
+    lay: trits::Layout,
+) -> Checked
+    requires { ⌜ (length (now firsts) ≡ 4 * (lay .marked + 1)) × ((trits : List ℕ) × (H : List ℕ) × Through trits H (now bs) (now hs) (now marks) lay) ⌝ }
     ensures { λ r. ⌜ ((trits H : List ℕ) → Through trits H (now (bs .entry)) (now (hs .entry)) (now (marks .entry)) lay
-        → checkedNumber r ≡ checkGiven (givenFrom 2 trits H) (now (rest .entry))) ⌝ }
+        → checkedNumber r ≡ (fault 25 (same (now (firsts .entry)) (bytes 4 (starts trits H))) then checkGiven (givenFrom 2 trits H) (now (rest .entry)))) ⌝ }
 {
     let k = lay.shadows;
     let size = 4 * k;
     if let Checked::Refused(f) = opened(rest, Refusal::IndexWrong, k, size) {
-        return Checked::Refused(f);
+        let n = lay.nodes;
+        return before5(hs, marks, firsts, n, f);
     }
     let table = trits::tryte_table();
     let l = lay.trits;
-    let right = crate::placed::places_right(bs, hs, &table, contents(rest, size), l);
+    let right = crate::placed::index_right(bs, hs, &table, firsts, contents(rest, size), l);
     if right {
         return from6(bs, marks, &table, after(rest, size), lay);
     }
@@ -185,12 +209,8 @@ fn from4(bs: &[u8], hs: &[u8], marks: &[u8], rest: &[u8], lay: trits::Layout) ->
     if let Checked::Refused(f) = opened(rest, Refusal::IndexWrong, entries, size) {
         return Checked::Refused(f);
     }
-    let n = lay.nodes;
-    let right = crate::started::starts_right(hs, marks, contents(rest, size), n);
-    if right {
-        return from5(bs, hs, marks, after(rest, size), lay);
-    }
-    Checked::Refused(Refusal::IndexWrong)
+    let firsts = contents(rest, size);
+    from5(bs, hs, marks, firsts, after(rest, size), lay)
 }
 
 // Sections 3 to 9, where section 1 gave the sizes.

@@ -1,4 +1,5 @@
-// Section 5: the places of the twos by node. Their keys have to rise, and as many rising keys as there are twos are all of them.
+// Section 5, and section 4 beside it: the places of the twos by node, and where each marked node's begin. The keys of the places have to rise, and
+// as many rising keys as there are twos are all of them.
 use little::get2;
 use little::get4;
 use little::wide;
@@ -6,16 +7,17 @@ use trits::trit;
 use trits::tryte_count;
 use trits::tryte_part;
 ghost use mathlib.Core.Path.{_≡_};
+ghost use mathlib.Core.Bool.{_&&_};
 ghost use mathlib.Core.List.{List};
 ghost use Prim.Native.Nat.{ℕ, _+_, _*_, _≤_, _<_};
 ghost use lib.ListN.{length};
 ghost use Rattle.format.specs.Lists.{same, countIn};
 ghost use Rattle.format.specs.Trits.{rank, tryteTable};
-ghost use Rattle.format.specs.Image.{bytes, nodeCount, grouped};
+ghost use Rattle.format.specs.Image.{bytes, nodeCount, markedNodes, grouped, starts};
 ghost use Rattle.format.proofs.ImageReads.{read};
 ghost use Rattle.samples.specs.Lent.{TritsIn};
 ghost use Rattle.proper.specs.Known.{Known};
-ghost use Rattle.proper.specs.Places.{TwosAt, Filled, Seated, SeatOf, Answered};
+ghost use Rattle.proper.specs.Places.{TwosAt, Filled, Seated, SeatOf, Answered, numberIs};
 
 // A tryte, and the twos before it.
 struct Seat {
@@ -143,11 +145,32 @@ fn entry_key(
     Entry::Key(key, seat)
 }
 
-// Section 5: the places of the twos, grouped by node rising, then by place.
-pub fn places_right(bs: &[u8], hs: &[u8], table: &[u8; 243], part: &[u8], l: usize) -> bool
+// Whether a section of 4 bytes a number has number `j`, and that is `x`.
+fn number_is(part: &[u8], j: usize, x: usize) -> bool
+    requires { ⌜ j ≤ 65535 ⌝ }
+    ensures { λ r. ⌜ r ≡ numberIs (now (part .entry)) j x ⌝ }
+{
+    let at = 4 * j;
+    if part.len() < at + 4 {
+        return false;
+    }
+    get4(part, at) == x
+}
+
+// Sections 4 and 5: the places of the twos, grouped by node rising, then by place; and the index of each node's first place, then k. Where a place's
+// node is another than the one before, its index is the next number of section 4.
+pub fn index_right(
+    bs: &[u8],
+    hs: &[u8],
+    table: &[u8; 243],
+    firsts: &[u8],
+    part: &[u8],
+    l: usize,
+) -> bool
     requires { ⌜ (now table ≡ tryteTable) × ((trits : List ℕ) × (H : List ℕ) × Known trits H (now bs) (now hs) × (length trits ≡ l) × (length (now part) ≡ 4 * length H)) ⌝ }
     ensures { λ r. ⌜ ((trits H : List ℕ) → Known trits H (now (bs .entry)) (now (hs .entry)) → length trits ≡ l
-        → r ≡ same (now (part .entry)) (bytes 4 (grouped trits H (nodeCount trits)))) ⌝ }
+        → length (now (firsts .entry)) ≡ 4 * (length (markedNodes trits H) + 1)
+        → r ≡ (same (now (firsts .entry)) (bytes 4 (starts trits H)) && same (now (part .entry)) (bytes 4 (grouped trits H (nodeCount trits))))) ⌝ }
 {
     let mut twos = [0u16; 1932];
     sample_twos(bs, table, l, &mut twos);
@@ -157,14 +180,25 @@ pub fn places_right(bs: &[u8], hs: &[u8], table: &[u8; 243], part: &[u8], l: usi
         tryte: 0,
         before: 0,
     };
+    let mut j: usize = 0;
     let mut e: usize = 0;
     while e < many {
         let Entry::Key(key, seat) = entry_key(bs, hs, table, &twos, part, l, e, low, last) else {
             return false;
         };
+        let before = low / 131072;
+        let index = e;
         low = key + 1;
         last = seat;
         e += 1;
+        if before < key / 131072 {
+            let right = number_is(firsts, j, index);
+            if right {
+                j += 1;
+            } else {
+                return false;
+            }
+        }
     }
-    true
+    number_is(firsts, j, many)
 }

@@ -1,0 +1,14 @@
+-- `check::before5` meets its contract. Assumes nothing.
+use mathlib.Core.Path.{sym, ap, _∙_}
+use borrow.Author.Needs.{needs}
+use Rattle.format.specs.Faults.{fault, _then_}
+use Rattle.proper.proofs.check.before5.Statement.{statement}
+use Rattle.proper.proofs.check.before5.Tie as tie
+
+pub before5-spec : {M : Type 1} → statement M
+before5-spec =
+    tie.close
+    (tie.spec
+    (λ c κs. search needs)
+    (λ c trits H s k n. rw (← c .before .starts-right .ensures trits H s k n, c .if1 .taken))
+    (λ c trits H s k n. rw (← c .before .starts-right .ensures trits H s k n, c .if1 .left)))
