@@ -200,6 +200,7 @@ pub fn largest(rng: &mut Xorshift) -> Vec<Graph> {
         used_by_all(30_000, 65_535),
         used_by_all(30_000, 30_000),
         used_by_all(64, 65_535),
+        used_in_turn(30_000, 65_535),
         random(30_000, 65_535, 1, rng),
         random(30_000, 65_535, 30_000, rng),
         random(30_000, 30_100, 1, rng),

@@ -164,10 +164,8 @@ fn before5(hs: &[u8], marks: &[u8], firsts: &[u8], n: usize, f: Refusal) -> Chec
         → checkedNumber r ≡ (fault 25 (same (now (firsts .entry)) (bytes 4 (starts trits H))) then refusalNumber f)) ⌝ }
 {
     let right = crate::started::starts_right(hs, marks, firsts, n);
-    if right {
-        return Checked::Refused(f);
-    }
-    Checked::Refused(Refusal::IndexWrong)
+    let first = if right { f } else { Refusal::IndexWrong };
+    Checked::Refused(first)
 }
 
 // Section 4's contents, then sections 5 to 9. Sections 4 and 5 are compared together: where section 5 is as long as it should be, their faults are one.

@@ -1,7 +1,5 @@
 -- `check::before5` meets its contract. Assumes nothing.
-use mathlib.Core.Path.{sym, ap, _∙_}
 use borrow.Author.Needs.{needs}
-use Rattle.format.specs.Faults.{fault, _then_}
 use Rattle.proper.proofs.check.before5.Statement.{statement}
 use Rattle.proper.proofs.check.before5.Tie as tie
 

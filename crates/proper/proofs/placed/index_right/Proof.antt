@@ -88,7 +88,7 @@ loop-again c =
       omega arith,
       λ trits H K n.
           let r = rises k trits H K n in (
-            indexed-next (turn .before .loop .inv .2 trits H K n .0) (K .shadowed .proper) (inside turn trits H K) (r .0) (r .1) (c .before .before .if1 .taken)
+            indexed-next (turn .before .loop .inv .2 trits H K n .0) (K .shadowed .proper) (inside turn trits H K) (r .0) (r .1) (omega (arith, c .before .before .if1 .taken)) (omega arith)
                 (sym (c .before .number-is .ensures) ∙ c .if2 .taken),
             r .2 .seated,
           ),
@@ -100,7 +100,7 @@ returns-2 c =
     let turn = k .before .before .before .before in
     λ trits H K n long.
     let r = rises k trits H K n in
-    indexed-differs (turn .before .loop .inv .2 trits H K n .0) (K .shadowed .proper) (inside turn trits H K) (r .0) (r .1) (c .before .before .if1 .taken)
+    indexed-differs (turn .before .loop .inv .2 trits H K n .0) (K .shadowed .proper) (inside turn trits H K) (r .0) (r .1) (omega (arith, c .before .before .if1 .taken)) (omega arith)
     (sym (c .before .number-is .ensures) ∙ c .if2 .left)
 
 loop-again-2 : tie.Need-loop-again-2 Inv-loop μ-loop
@@ -111,7 +111,7 @@ loop-again-2 c =
       omega arith,
       λ trits H K n.
           let r = rises k trits H K n in
-          (indexed-same (turn .before .loop .inv .2 trits H K n .0) (K .shadowed .proper) (inside turn trits H K) (r .0) (r .1) (c .if1 .left), r .2 .seated),
+          (indexed-same (turn .before .loop .inv .2 trits H K n .0) (K .shadowed .proper) (inside turn trits H K) (r .0) (r .1) (omega (arith, c .if1 .left)), r .2 .seated),
     )
 
 returns-3 : tie.Need-returns-3 Inv-loop μ-loop
