@@ -6,7 +6,7 @@ use mathlib.Core.List.{List, _∷_}
 use lib.Dec.{lit<}
 use lib.ListN.{length}
 use Rattle.format.specs.Lists.{run, countIn, up}
-use Rattle.format.specs.Image.{bytes, nodeCount, grouped, marked, markedNodes, markWords, starts, markSamples, lastMultiple, Section, section3, section4, section5, section6, section7, section8, section9}
+use Rattle.format.specs.Image.{bytes, nodeCount, grouped, marked, markedNodes, markWords, starts, markSamples, lastMultiple, given, section3, section4, section5, section6, section7, section8, section9}
 use Rattle.format.specs.Proper.{restOf, givenFault, checkGiven, ProperTrits}
 use Rattle.format.specs.Answers.{refusalNumber}
 use Rattle.format.specs.declared.Refusal.{Refusal}
@@ -16,9 +16,9 @@ use Rattle.format.proofs.CheckLaws.{shadow-nodes}
 use Rattle.samples.proofs.SampleLaws.{far-pairs}
 use Rattle.trits.specs.declared.Layout.{Layout}
 use Rattle.trits.specs.Layout.{layout}
-use Rattle.proper.specs.Examined.{laying, Sized, Through, Counted}
+use Rattle.proper.specs.Examined.{laying, Sized, Through, Counted, givenFrom}
 use Rattle.proper.specs.Samples.{Level, far, middle, near, levelOf}
-use Rattle.proper.proofs.OpenLaws.{Front, first-refused, first-passed}
+use Rattle.proper.proofs.OpenLaws.{Front, given-room, first-refused, first-passed}
 
 module _ (trits H : List ℕ) where
   pub front3 : {n : ℕ} → nodeCount trits ≡ n → Front (section3 trits H) n (8 * up n 64)
@@ -49,7 +49,7 @@ marked-few trits H = omega (arith, length-keep (marked H) (run 1 (nodeCount trit
 
 -- ---- sections 6, 7 and 8 are levels
 
-pub level-small : {step fan width : ℕ} → Level step fan width → {l : ℕ} → l ≤ 125536 → (0 < step) × (l / step ≤ 125536) × (width * (2 * (l / step + 1)) ≤ 1004296)
+pub level-small : {i step fan width : ℕ} → Level i step fan width → {l : ℕ} → l ≤ 125536 → (0 < step) × (l / step ≤ 125536) × (width * (2 * (l / step + 1)) ≤ 1004296)
 level-small far h = (lit< tt, omega arith, omega arith)
 level-small middle h = (lit< tt, omega arith, omega arith)
 level-small near h = (lit< tt, omega arith, omega arith)
@@ -64,18 +64,13 @@ module _ (trits : List ℕ) where
         fills = length-bytes width _ ∙ ap (λ (k : ℕ). width * k) (length-pairs step (lastMultiple (step * fan)) trits ∙ ap (λ (k : ℕ). 2 * k) f);
       }
 
-  module _ (H : List ℕ) where
-    pub section6-level : length trits ≤ 125536 → section6 trits H ≡ levelOf 65725 2 4 trits
-    unfolding section6 levelOf
-    section6-level few = λ i. record { entries = length trits / 65725 + 1; contents = bytes 4 (sym (far-pairs trits few) i) }
-
-    pub section7-level : section7 trits H ≡ levelOf 275 239 2 trits
-    unfolding section7 levelOf
-    section7-level = refl
-
-    pub section8-level : section8 trits H ≡ levelOf 25 11 1 trits
-    unfolding section8 levelOf
-    section8-level = refl
+-- level i, and what stands behind it
+given-level : (trits H : List ℕ) → length trits ≤ 125536 → {i step fan width : ℕ} → Level i step fan width
+    → givenFrom (3 + i) trits H ≡ levelOf step fan width trits ∷ givenFrom (3 + (i + 1)) trits H
+unfolding given section6 section7 section8 levelOf
+given-level trits H few far = λ i. record { entries = length trits / 65725 + 1; contents = bytes 4 (sym (far-pairs trits few) i) } ∷ givenFrom 4 trits H
+given-level trits H few middle = refl
+given-level trits H few near = refl
 
 -- the layout by the sizes that code has
 pub laying-is : {trits : List ℕ} (H : List ℕ) {l n c k h : ℕ} → Sized trits l n c k → length H ≡ countIn 2 trits → h ≡ length (markedNodes trits H) → layout l n c k h ≡ laying trits H
@@ -97,12 +92,16 @@ counted-marked C = sym (ap (λ (y : Layout). y .marked) (C .laid))
 pub counted : {trits H bs hs marks : List ℕ} {lay : Layout} → Through trits H bs hs marks lay → Counted trits H bs marks lay
 counted T = record { trits-in = T .known .trits-in; marked = T .marked; laid = T .laid }
 
--- a section that is a level, and those behind it
-module _ {s : Section} (ss : List Section) (step fan width : ℕ) (trits : List ℕ) (is : s ≡ levelOf step fan width trits) (b : List ℕ) where
-  pub level-refused : (f : Refusal) → refusalNumber f ≡ givenFault (levelOf step fan width trits) b → refusalNumber f ≡ checkGiven (s ∷ ss) b
-  level-refused f e = first-refused s ss b f (e ∙ ap (λ (z : Section). givenFault z b) (sym is))
+module _ {trits H bs marks : List ℕ} {lay : Layout} (C : Counted trits H bs marks lay) {i step fan width : ℕ} (L : Level i step fan width) (b : List ℕ) where
+  pub level-refused : (f : Refusal) → refusalNumber f ≡ givenFault (levelOf step fan width trits) b → refusalNumber f ≡ checkGiven (givenFrom (3 + i) trits H) b
+  level-refused f e = rw (given-level trits H (C .trits-in .few) L) (first-refused _ _ b f e)
 
-  pub level-passed : {l : ℕ} → length trits ≡ l → 0 ≡ givenFault (levelOf step fan width trits) b
-      → (x : ℕ) → x ≡ checkGiven ss (restOf (width * (2 * (l / step + 1))) b) → x ≡ checkGiven (s ∷ ss) b
-  level-passed e z =
-      first-passed s ss b (ap (λ (y : Section). length (y .contents)) is ∙ front-level trits step fan width e .fills) (z ∙ ap (λ (y : Section). givenFault y b) (sym is))
+  -- it has passed
+  module _ (z : 0 ≡ givenFault (levelOf step fan width trits) b) where
+    pub level-room : 4 + width * (2 * (lay .trits / step + 1)) ≤ length b
+    level-room = given-room (front-level trits step fan width (counted-trits C)) b z
+
+    pub level-passed : checkGiven (givenFrom (3 + i) trits H) b ≡ checkGiven (givenFrom (3 + (i + 1)) trits H) (restOf (width * (2 * (lay .trits / step + 1))) b)
+    level-passed =
+        rw (given-level trits H (C .trits-in .few) L)
+        (sym (first-passed _ _ b (front-level trits step fan width (counted-trits C) .fills) z _ refl))

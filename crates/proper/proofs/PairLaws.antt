@@ -24,7 +24,7 @@ use Rattle.proper.specs.Samples.{Level, far, middle, near, Planned, pair
 
 -- ---- the three sections
 
-pub planned : {step fan width : ℕ} → Level step fan width → (trits part : List ℕ) → length trits ≤ 125536
+pub planned : {i step fan width : ℕ} → Level i step fan width → (trits part : List ℕ) → length trits ≤ 125536
     → length part ≡ width * (2 * (length trits / step + 1)) → Planned trits step fan width part
 planned far trits part few e =
     record { trytewise = refl; steps = lit< tt; fans = lit< tt; widths = λ n _. absurd (n refl); full = e; fits = rw (far-pairs trits few) (fits6 trits few) }

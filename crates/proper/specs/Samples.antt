@@ -10,11 +10,11 @@ use Rattle.format.specs.Image.{bytes, pairs, lastMultiple, Section}
 use Rattle.format.proofs.ImageReads.{read}
 use Rattle.samples.specs.Samples.{Width}
 
--- step, fan and width of sections 6, 7 and 8
-pub data Level : ℕ → ℕ → ℕ → Type 0 where
-  far : Level 65725 2 4
-  middle : Level 275 239 2
-  near : Level 25 11 1
+-- step, fan and width of sections 6, 7 and 8: levels 0, 1 and 2
+pub data Level : ℕ → ℕ → ℕ → ℕ → Type 0 where
+  far : Level 0 65725 2 4
+  middle : Level 1 275 239 2
+  near : Level 2 25 11 1
 
 -- the section with so many steps, and so many bytes a number
 unfoldable pub levelOf : ℕ → ℕ → ℕ → List ℕ → Section

@@ -8,7 +8,7 @@ use format::Refusal;
 use little::get4;
 ghost use mathlib.Core.Path.{_≡_};
 ghost use mathlib.Core.List.{List, []};
-ghost use Prim.Native.Nat.{ℕ, _+_, _*_, _≤_};
+ghost use Prim.Native.Nat.{ℕ, _+_, _*_, _≤_, _<_};
 ghost use lib.ListN.{length};
 ghost use Rattle.format.specs.Faults.{fault, _then_};
 ghost use Rattle.format.specs.Lists.{same};
@@ -101,7 +101,7 @@ fn level(
     fan: usize,
     width: usize,
 ) -> Checked
-    requires { ⌜ (now table ≡ tryteTable) × Level step fan width × ((trits : List ℕ) × TritsIn trits (now bs) × (length trits ≡ l)) ⌝ }
+    requires { ⌜ (now table ≡ tryteTable) × ((i : ℕ) × Level i step fan width) × ((trits : List ℕ) × TritsIn trits (now bs) × (length trits ≡ l)) ⌝ }
     ensures { λ r. ⌜ ((trits : List ℕ) → TritsIn trits (now (bs .entry)) → length trits ≡ l → checkedNumber r ≡ givenFault (levelOf step fan width trits) (now (rest .entry))) ⌝ }
 {
     let entries = l / step + 1;
@@ -117,43 +117,61 @@ fn level(
     Checked::Refused(Refusal::IndexWrong)
 }
 
-// Section 8, then section 9 and what follows it.
-fn from8(bs: &[u8], marks: &[u8], table: &[u8; 243], rest: &[u8], lay: trits::Layout) -> Checked
-    requires { ⌜ (now table ≡ tryteTable) × ((trits : List ℕ) × (H : List ℕ) × Counted trits H (now bs) (now marks) lay) ⌝ }
-    ensures { λ r. ⌜ ((trits H : List ℕ) → Counted trits H (now (bs .entry)) (now (marks .entry)) lay → checkedNumber r ≡ checkGiven (givenFrom 5 trits H) (now (rest .entry))) ⌝ }
-{
-    let l = lay.trits;
-    let size = 1 * (2 * (l / NEAR + 1));
-    if let Checked::Refused(f) = level(bs, table, rest, l, NEAR, MIDDLE / NEAR, 1) {
-        return Checked::Refused(f);
-    }
-    from9(marks, after(rest, size), lay)
+// What section 6, 7 or 8 counts by.
+struct Plan {
+    step: usize,
+    fan: usize,
+    width: usize,
 }
 
-// Section 7, then section 8 and what follows it.
-fn from7(bs: &[u8], marks: &[u8], table: &[u8; 243], rest: &[u8], lay: trits::Layout) -> Checked
-    requires { ⌜ (now table ≡ tryteTable) × ((trits : List ℕ) × (H : List ℕ) × Counted trits H (now bs) (now marks) lay) ⌝ }
-    ensures { λ r. ⌜ ((trits H : List ℕ) → Counted trits H (now (bs .entry)) (now (marks .entry)) lay → checkedNumber r ≡ checkGiven (givenFrom 4 trits H) (now (rest .entry))) ⌝ }
+// The plan of section 6, 7 or 8: level 0, 1 or 2.
+fn plan_of(i: usize) -> Plan
+    requires { ⌜ i < 3 ⌝ }
+    ensures { λ r. ⌜ Level i (r .step) (r .fan) (r .width) ⌝ }
 {
-    let l = lay.trits;
-    let size = 2 * (2 * (l / MIDDLE + 1));
-    if let Checked::Refused(f) = level(bs, table, rest, l, MIDDLE, FAR / MIDDLE, 2) {
-        return Checked::Refused(f);
+    if i == 0 {
+        return Plan {
+            step: FAR,
+            fan: 2,
+            width: 4,
+        };
     }
-    from8(bs, marks, table, after(rest, size), lay)
+    if i == 1 {
+        return Plan {
+            step: MIDDLE,
+            fan: FAR / MIDDLE,
+            width: 2,
+        };
+    }
+    Plan {
+        step: NEAR,
+        fan: MIDDLE / NEAR,
+        width: 1,
+    }
 }
 
-// Section 6, then section 7 and what follows it.
+// Sections 6 to 9.
 fn from6(bs: &[u8], marks: &[u8], table: &[u8; 243], rest: &[u8], lay: trits::Layout) -> Checked
     requires { ⌜ (now table ≡ tryteTable) × ((trits : List ℕ) × (H : List ℕ) × Counted trits H (now bs) (now marks) lay) ⌝ }
     ensures { λ r. ⌜ ((trits H : List ℕ) → Counted trits H (now (bs .entry)) (now (marks .entry)) lay → checkedNumber r ≡ checkGiven (givenFrom 3 trits H) (now (rest .entry))) ⌝ }
 {
     let l = lay.trits;
-    let size = 4 * (2 * (l / FAR + 1));
-    if let Checked::Refused(f) = level(bs, table, rest, l, FAR, 2, 4) {
-        return Checked::Refused(f);
+    let mut left = rest;
+    let mut i = 0;
+    while i < 3 {
+        let p = plan_of(i);
+        let step = p.step;
+        let fan = p.fan;
+        let width = p.width;
+        if let Checked::Refused(f) = level(bs, table, left, l, step, fan, width) {
+            return Checked::Refused(f);
+        }
+        let size = width * (2 * (l / step + 1));
+        let behind = after(left, size);
+        left = behind;
+        i += 1;
     }
-    from7(bs, marks, table, after(rest, size), lay)
+    from9(marks, left, lay)
 }
 
 // Section 5's front has fault `f`, and section 4's contents (25) come before it.

@@ -1,62 +1,91 @@
--- `check::from6` meets its contract. Assumes nothing.
-use Prim.Native.Nat.{ℕ, _+_, _*_, _/_, _≤_}
+-- `check::from6` meets its contract: each turn takes one level off the front. Assumes nothing.
+use Prim.Native.Nat.{ℕ, _+_, _-_, _*_, _/_, _≤_, _<_}
 use native.Mathlib.Omega.{arith}
-use mathlib.Core.Path.{_≡_, sym, ap, _∙_}
+use mathlib.Core.Path.{_≡_, refl, sym, ap, _∙_}
 use mathlib.Core.List.{List}
 use borrow.Author.Needs.{needs}
-use lib.ListN.{length}
-use Rattle.format.specs.Image.{given}
 use Rattle.format.specs.Proper.{givenFault, checkGiven}
 use Rattle.format.specs.Answers.{checkedNumber}
 use Rattle.proper.specs.Examined.{Counted, givenFrom}
-use Rattle.proper.specs.Samples.{far, levelOf}
-use Rattle.proper.proofs.OpenLaws.{given-room}
-use Rattle.proper.proofs.GivenLaws.{front-level, section6-level, level-refused, level-passed, counted-trits}
+use Rattle.proper.specs.Samples.{levelOf}
+use Rattle.proper.proofs.GivenLaws.{level-small, level-refused, level-room, level-passed, counted-trits, counted-nodes}
 use Rattle.proper.proofs.check.from6.Statement.{statement}
 use Rattle.proper.proofs.check.from6.Tie as tie
 
--- the number of trits
-few : (c : tie.Start) → c .args .lay .trits ≤ 125536
-few c = omega (arith, counted-trits (c .pre .1 .2), c .pre .1 .2 .trits-in .few)
+abbrev Inv-loop : tie.InvT-loop
+Inv-loop bs marks table rest lay l left₀ i₀ left i =
+    (i ≤ 3) × ((trits H : List ℕ) → Counted trits H bs marks lay → checkGiven (givenFrom (3 + i) trits H) left ≡ checkGiven (givenFrom 3 trits H) rest)
 
-returns : tie.Need-returns
-unfolding given
+abbrev μ-loop : tie.MeasureT-loop
+μ-loop bs marks table rest lay l left₀ i₀ left i = 3 - i
+
+-- a level's size
+small : (c : tie.After-plan-of Inv-loop μ-loop) → let x = c .before .before .before .before .before .before .args in let p = c .plan-of .result in
+    (0 < p .step) × (x .lay .trits / p .step ≤ 125536) × (p .width * (2 * (x .lay .trits / p .step + 1)) ≤ 1004296)
+small c =
+    let t = c .before .before .before .before .before .before .pre .1 in
+    level-small (c .plan-of .ensures) (omega (arith, counted-trits (t .2), t .2 .trits-in .few))
+
+level-requires : tie.Need-level-requires Inv-loop μ-loop
+level-requires c κs =
+    let p = c .before .before .before .before .before .before .pre in
+    (p .0, (c .before .before .loop .i, c .plan-of .ensures), (p .1 .0, p .1 .2 .trits-in, counted-trits (p .1 .2)))
+
+returns : tie.Need-returns Inv-loop μ-loop
 returns c =
     let called = c .before .before .before in
-    let x = called .before .before .before .before .args in
+    let at = called .before .before .before in
     λ trits H C.
-    level-refused (givenFrom 4 trits H) 65725 2 4 trits (section6-level trits H (C .trits-in .few)) (x .rest .now) (c .before .f .given .0 .0)
+    level-refused C (called .before .plan-of .ensures) (at .loop .left .now) (c .before .f .given .0 .0)
     (sym (ap checkedNumber (c .before .f .given .1)) ∙ called .level .ensures trits (C .trits-in) (counted-trits C))
+    ∙ at .loop .inv .1 trits H C
 
--- section 6 has passed
-passed : (c : tie.After-enum-told) → let x = c .before .before .before .before .before .before .args in (trits H : List ℕ) → Counted trits H (x .bs .now) (x .marks .now) (x .lay)
-    → 0 ≡ givenFault (levelOf 65725 2 4 trits) (x .rest .now)
+-- the level has passed
+passed : (c : tie.After-enum-told Inv-loop μ-loop) → let p = c .before .before .before in let at = p .before .before in let x = at .before .before .before .before .args in
+    (trits H : List ℕ) → Counted trits H (x .bs .now) (x .marks .now) (x .lay)
+    → 0 ≡ givenFault (levelOf (p .plan-of .result .step) (p .plan-of .result .fan) (p .plan-of .result .width) trits) (at .loop .left .now)
 passed c trits H C = sym (ap checkedNumber (c .enum-told .given .1)) ∙ c .before .before .level .ensures trits (C .trits-in) (counted-trits C)
 
-room : (c : tie.After-enum-told) → let x = c .before .before .before .before .before .before .args in 4 + 4 * (2 * (x .lay .trits / 65725 + 1)) ≤ length (x .rest .now)
-room c =
-    let p = c .before .before .before .before .before .before .pre .1 in
-    given-room (front-level (p .0) 65725 2 4 (counted-trits (p .2))) _ (passed c (p .0) (p .1) (p .2))
+after-requires : tie.Need-after-requires Inv-loop μ-loop
+after-requires c κs =
+    let p = c .before .before .before in
+    let t = p .before .before .before .before .before .before .pre .1 in
+    level-room (t .2) (p .plan-of .ensures) _ (passed c (t .0) (t .1) (t .2))
 
-returns-2 : tie.Need-returns-2
-unfolding given
+loop-again : tie.Need-loop-again Inv-loop μ-loop
+loop-again c =
+    let p = c .before .before .before .before in (
+      omega arith,
+      λ trits H C.
+          ap (checkGiven (givenFrom (3 + (p .before .before .loop .i + 1)) trits H)) (c .after .ensures)
+          ∙ sym (level-passed C (p .plan-of .ensures) _ (passed (c .before) trits H C)) ∙ p .before .before .loop .inv .1 trits H C,
+    )
+
+returns-2 : tie.Need-returns-2 Inv-loop μ-loop
 returns-2 c =
-    let told = c .before .before in
-    λ trits H C.
-    level-passed (givenFrom 4 trits H) 65725 2 4 trits (section6-level trits H (C .trits-in .few)) _ (counted-trits C) (passed told trits H C) _
-    (c .from7 .ensures trits H C ∙ ap (checkGiven (givenFrom 4 trits H)) (c .before .after .ensures))
+    let at = c .before .before in
+    let e : at .loop .i ≡ 3 = omega arith in
+    λ trits H C. c .from9 .ensures trits H (C .marked) (counted-nodes C) ∙ rw e at (at .loop .inv .1 trits H C)
 
 pub from6-spec : {M : Type 1} → statement M
 from6-spec =
     tie.close
     (tie.spec
-    (λ c. omega (arith, few (c .before .before .before)))
-    (λ c. omega (arith, few (c .before .before .before)))
-    (λ c. omega (arith, few (c .before .before .before)))
-    (λ c κs. let p = c .before .before .before .pre in (p .0, far, (p .1 .0, p .1 .2 .trits-in, counted-trits (p .1 .2))))
+    Inv-loop
+    μ-loop
+    (λ c. (omega arith, λ trits H C. refl))
+    (λ c κs. search needs)
+    level-requires
     (λ c. search needs)
     returns
     (λ c. search needs)
-    (λ c κs. room c)
-    (λ c κs. search needs)
+    (λ c. small (c .before .before .before) .0)
+    (λ c. omega (arith, small (c .before .before .before) .1))
+    (λ c. omega (arith, small (c .before .before .before) .1))
+    (λ c. omega (arith, small (c .before .before .before) .2))
+    after-requires
+    (λ c. search needs)
+    (λ c. search needs)
+    loop-again
+    (λ c κs. let t = c .before .before .before .before .before .pre .1 in (t .0, t .1, t .2 .marked, counted-nodes (t .2)))
     returns-2)

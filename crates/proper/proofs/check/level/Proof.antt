@@ -21,7 +21,7 @@ use Rattle.proper.proofs.check.level.Statement.{statement}
 use Rattle.proper.proofs.check.level.Tie as tie
 
 small : (c : tie.Start) → let x = c .args in (0 < x .step) × (x .l / x .step ≤ 125536) × (x .width * (2 * (x .l / x .step + 1)) ≤ 1004296)
-small c = let p = c .pre in level-small (p .1) (omega (arith, p .2 .1 .few, p .2 .2))
+small c = let p = c .pre in level-small (p .1 .1) (omega (arith, p .2 .1 .few, p .2 .2))
 
 returns : tie.Need-returns
 returns c =
@@ -40,7 +40,7 @@ plan : (c : tie.After-contents) → let x = c .before .before .before .before .b
     → Planned trits (x .step) (x .fan) (x .width) (c .contents .result .now)
 plan c trits T e =
     let s = c .before .before .before .before .before .before in
-    planned (s .pre .1) trits _ (T .few)
+    planned (s .pre .1 .1) trits _ (T .few)
     (c .contents .ensures .1 ∙ ap (λ (k : ℕ). s .args .width * (2 * (k / s .args .step + 1))) (sym e))
 
 samples-right-requires : tie.Need-samples-right-requires
