@@ -22,7 +22,7 @@ use Rattle.format.proofs.EdgeLaws.{lt-of-rank}
 use Rattle.format.proofs.Sums.{roots-nodes}
 use Rattle.format.proofs.ProperLaws.{zeros-ones, last-zero, grown-walk, walk-grown}
 use Rattle.trits.specs.Search.{Tryte}
-use Rattle.trits.proofs.Trytes.{count-few, rank-more}
+use Rattle.trits.proofs.Trytes.{rank-more}
 use Rattle.samples.specs.Lent.{TritsIn}
 use Rattle.proper.specs.FirstSays.{Ballot}
 
@@ -119,17 +119,17 @@ module _ {trits : List ℕ} {p zeros ones : ℕ} (b : Ballot trits p zeros ones)
     enough = below-more (λ q. rank 0 trits q ≤ rank 1 trits q) p (b .enough) (omega (arith, b .zeros-are, b .ones-are));
   }
 
-  -- a whole tryte more, before which the ones are five more than the zeros
-  pub ballot-tryte : {q x z o : ℕ} → Tryte trits q x → p ≡ 5 * q → p + 5 ≤ length trits → zeros + 5 ≤ ones → z ≡ tryteCount 0 x 5 → o ≡ tryteCount 1 x 5
+  -- a whole tryte more, before which the ones are as many as the zeros before its end
+  pub ballot-tryte : {q x z o : ℕ} → Tryte trits q x → p ≡ 5 * q → p + 5 ≤ length trits → z ≡ tryteCount 0 x 5 → o ≡ tryteCount 1 x 5 → zeros + z ≤ ones
       → Ballot trits (p + 5) (zeros + z) (ones + o)
-  ballot-tryte {q} {x} {z} {o} T e h le ez eo =
+  ballot-tryte {q} {x} {z} {o} T e h ez eo le =
       let on : (t : ℕ) → rank t trits (p + 5) ≡ rank t trits p + tryteCount t x 5 = λ t. rw e (rank-more T t 5 (lit≤ tt) (omega arith)) in
       record {
         inside = h;
         zeros-are = omega (arith, b .zeros-are, on 0);
         ones-are = omega (arith, b .ones-are, on 1);
         enough = λ r l. elim (decLe p r) [
-          | yes y ↦ omega (arith, rank-mono 0 trits r (p + 5) (omega arith), on 0, count-few 0 x 5, b .zeros-are, b .ones-are, rank-mono 1 trits p r y)
+          | yes y ↦ omega (arith, rank-mono 0 trits r (p + 5) (omega arith), on 0, b .zeros-are, b .ones-are, rank-mono 1 trits p r y)
           | no y ↦ b .enough r (omega arith)
         ];
       }

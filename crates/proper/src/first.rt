@@ -119,9 +119,6 @@ fn onward(bs: &[u8], table: &[u8; 243], l: usize, c: Count) -> Count
 {
     let p = c.p;
     let q = p / 5;
-    if c.ones < c.zeros + 5 {
-        return trit_on(bs, l, c);
-    }
     if l < p + 5 {
         return trit_on(bs, l, c);
     }
@@ -130,6 +127,9 @@ fn onward(bs: &[u8], table: &[u8; 243], l: usize, c: Count) -> Count
     }
     let x = wide(bs[q]);
     let zeros = c.zeros + tryte_count(table, x, 0);
+    if c.ones < zeros {
+        return trit_on(bs, l, c);
+    }
     let ones = c.ones + tryte_count(table, x, 1);
     Count {
         zeros,
