@@ -74,7 +74,8 @@ fn sample_twos(bs: &[u8], table: &[u8; 243], l: usize, twos: &mut [u16; 1932])
     }
 }
 
-// The seat of place `p`: counted on from the seat `last` if that is at most 12 trytes back, or else from the last multiple of 65.
+// The seat of place `p`: counted on from the seat `last` if that is at most 6 trytes back, or else from the last multiple of 65, which is 6 back on
+// the average.
 fn seat_at(bs: &[u8], table: &[u8; 243], twos: &[u16; 1932], last: Seat, p: usize) -> Seat
     requires { ⌜ (now table ≡ tryteTable)
         × ((trits : List ℕ) × TritsIn trits (now bs) × TwosAt trits (now twos) × Seated trits last × (p < length trits)) ⌝ }
@@ -84,7 +85,7 @@ fn seat_at(bs: &[u8], table: &[u8; 243], twos: &[u16; 1932], last: Seat, p: usiz
     let end = p / 5;
     let start = last.tryte;
     if start <= end {
-        if end < start + 13 {
+        if end < start + 7 {
             let on = twos_to(bs, table, start, end, last.before);
             return Seat {
                 tryte: end,
