@@ -1,14 +1,16 @@
 -- The twos before a place, counted tryte by tryte from the last multiple of 65. Assumes nothing.
-use Prim.Native.Nat.{ℕ, _+_, _*_, _/_, _≤_, _<_}
+use Prim.Native.Nat.{ℕ, zero, suc, _+_, _*_, _/_, _%_, _^_, _≤_, _<_}
+use native.Mathlib.Nat.{le-of-suc-le-suc, not-suc-le-zero, pow-zero, pow-suc, one-le-pow, mod-one, mod-lt}
 use native.Mathlib.Decide.{ℕ-discrete}
 use native.Mathlib.Omega.{arith}
-use mathlib.Core.Path.{_≡_, refl, sym, ap, _∙_}
+use mathlib.Core.Path.{_≡_, refl, sym, ap, ap₂, _∙_}
 use mathlib.Core.List.{List}
-use lib.Dec.{lit<}
-use lib.ListN.{length, getD, set}
+use lib.Arith.{mod-mul, digits-div, digits-mod}
+use lib.Dec.{eqb, lit<}
+use lib.ListN.{length, getD, set, take}
 use lib.Seq.{getD-set-same, getD-set-other}
-use Rattle.format.specs.Lists.{spread}
-use Rattle.format.specs.Trits.{rank, trytes}
+use Rattle.format.specs.Lists.{bit, countIn, lowDigits, spread}
+use Rattle.format.specs.Trits.{rank, trytes, tryteCount}
 use Rattle.format.proofs.Laws.{rank-zero, rank-count, count-le}
 use Rattle.format.proofs.Digits.{lt-up, spread-gather-at}
 use Rattle.format.proofs.Sizes.{length-trytes}
@@ -34,6 +36,26 @@ module _ {trits bs : List ℕ} (T : TritsIn trits bs) where
 
   pub few-twos : (p : ℕ) → rank 2 trits p ≤ 125536
   few-twos p = omega (arith, rank-count 2 trits p, count-le 2 trits, T .few)
+
+-- ---- the twos in part of a tryte
+
+no-twos : (w : ℕ) → countIn 2 (lowDigits 3 w 0) ≡ 0
+no-twos zero = refl
+no-twos (suc w) = omega (arith, no-twos w)
+
+-- a number cut behind its first r digits has zeros in place of the others
+cut-twos : (w x r : ℕ) → r ≤ w → countIn 2 (lowDigits 3 w (x % 3 ^ r)) ≡ countIn 2 (take r (lowDigits 3 w x))
+cut-twos w x zero h = ap (λ (k : ℕ). countIn 2 (lowDigits 3 w (x % k))) (pow-zero 3) ∙ ap (λ (k : ℕ). countIn 2 (lowDigits 3 w k)) (mod-one x) ∙ no-twos w
+cut-twos zero x (suc r) h = absurd (not-suc-le-zero h)
+cut-twos (suc w) x (suc r) h =
+    let e : x % 3 ^ suc r ≡ (x / 3 % 3 ^ r) * 3 + x % 3 = ap (λ (k : ℕ). x % k) (pow-suc 3 r) ∙ mod-mul x (one-le-pow r 3 (lit< tt)) (lit< tt) in
+    ap (λ (k : ℕ). countIn 2 (lowDigits 3 (suc w) k)) e
+    ∙ ap₂ (λ (a b : ℕ). bit (eqb a 2) + countIn 2 (lowDigits 3 w b)) (digits-mod (x / 3 % 3 ^ r) (mod-lt x (lit< tt))) (digits-div (x / 3 % 3 ^ r) (mod-lt x (lit< tt)))
+    ∙ ap (λ (k : ℕ). bit (eqb (x % 3) 2) + k) (cut-twos w (x / 3) r (le-of-suc-le-suc h))
+
+pub front-twos : (x r : ℕ) → r ≤ 5 → tryteCount 2 (x % 3 ^ r) 5 ≡ tryteCount 2 x r
+unfolding tryteCount
+front-twos x r h = cut-twos 5 x r h
 
 -- ---- the twos before every multiple of 65
 

@@ -3,15 +3,13 @@
 use little::get2;
 use little::get4;
 use little::wide;
-use trits::trit;
 use trits::tryte_count;
-use trits::tryte_part;
 ghost use mathlib.Core.Path.{_≡_};
 ghost use mathlib.Core.Bool.{_&&_};
 ghost use mathlib.Core.List.{List};
-ghost use Prim.Native.Nat.{ℕ, _+_, _*_, _≤_, _<_};
-ghost use lib.ListN.{length};
-ghost use Rattle.format.specs.Lists.{same, countIn};
+ghost use Prim.Native.Nat.{ℕ, _+_, _*_, _^_, _≤_, _<_};
+ghost use lib.ListN.{length, getD};
+ghost use Rattle.format.specs.Lists.{same, spread, countIn};
 ghost use Rattle.format.specs.Trits.{rank, tryteTable};
 ghost use Rattle.format.specs.Image.{bytes, nodeCount, markedNodes, grouped, starts};
 ghost use Rattle.format.proofs.ImageReads.{read};
@@ -100,14 +98,41 @@ fn seat_at(bs: &[u8], table: &[u8; 243], twos: &[u16; 1932], last: Seat, p: usiz
     Seat { tryte: end, before }
 }
 
-// The twos before place `p`: those before its tryte, and part of that.
-fn twos_before(bs: &[u8], seat: Seat, p: usize) -> usize
-    requires { ⌜ ((trits : List ℕ) × TritsIn trits (now bs) × SeatOf trits p seat × (p < length trits)) ⌝ }
+// 3 to the power `r`.
+fn power(r: usize) -> usize
+    requires { ⌜ r < 5 ⌝ }
+    ensures { λ w. ⌜ (w ≡ 3 ^ r) × (0 < w) ⌝ }
+{
+    match r {
+        0 => 1,
+        1 => 3,
+        2 => 9,
+        3 => 27,
+        _ => 81,
+    }
+}
+
+// Trit `p` of trytes, by one division: the places of section 5 come in no order that a branch could follow.
+fn lone_trit(bs: &[u8], p: usize) -> usize
+    requires { ⌜ p < 5 * length (now bs) ⌝ }
+    ensures { λ r. ⌜ (r ≡ getD (spread 3 5 (now (bs .entry))) p 0) × (r < 3) ⌝ }
+{
+    let q = p / 5;
+    let x = wide(bs[q]);
+    let w = power(p % 5);
+    x / w % 3
+}
+
+// The twos before place `p`: those before its tryte, and those of the tryte cut behind its first trits.
+fn twos_before(bs: &[u8], table: &[u8; 243], seat: Seat, p: usize) -> usize
+    requires { ⌜ (now table ≡ tryteTable) × ((trits : List ℕ) × TritsIn trits (now bs) × SeatOf trits p seat × (p < length trits)) ⌝ }
     ensures { λ r. ⌜ ((trits : List ℕ) → TritsIn trits (now (bs .entry)) → SeatOf trits p seat → p < length trits → r ≡ rank 2 trits p) ⌝ }
 {
     let q = seat.tryte;
     let x = wide(bs[q]);
-    seat.before + tryte_part(x, 2, p % 5)
+    let w = power(p % 5);
+    let front = x % w;
+    seat.before + tryte_count(table, front, 2)
 }
 
 // Entry `e` of section 5: a place that holds a 2, with a key of at least `low`; `last` is a seat to count from.
@@ -132,11 +157,11 @@ fn entry_key(
     if l <= p {
         return Entry::Wrong;
     }
-    if trit(bs, p) != 2 {
+    if lone_trit(bs, p) != 2 {
         return Entry::Wrong;
     }
     let seat = seat_at(bs, table, twos, last, p);
-    let j = twos_before(bs, seat, p);
+    let j = twos_before(bs, table, seat, p);
     let from = 2 * j;
     let shadow = get2(hs, from);
     let key = 131072 * shadow + p;

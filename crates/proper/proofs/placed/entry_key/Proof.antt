@@ -14,14 +14,14 @@ use Rattle.proper.proofs.placed.entry_key.Statement.{statement}
 use Rattle.proper.proofs.placed.entry_key.Tie as tie
 
 -- the trit that was read is the place's
-trit-is : (c : tie.After-trit) → let g = c .before .before in let s = g .before .before .before .before in
-    (trits : List ℕ) → TritsIn trits (s .args .bs .now) → c .trit .result ≡ getD trits (g .get4 .result) 0
-trit-is c trits T = c .trit .ensures .0 ∙ trit-in T (c .before .before .get4 .result)
+trit-is : (c : tie.After-lone-trit) → let g = c .before .before in let s = g .before .before .before .before in
+    (trits : List ℕ) → TritsIn trits (s .args .bs .now) → c .lone-trit .result ≡ getD trits (g .get4 .result) 0
+trit-is c trits T = c .lone-trit .ensures .0 ∙ trit-in T (c .before .before .get4 .result)
 
 -- past both tests a 2 stands there
 here : (c : tie.Else2) → let g = c .before .before .before in let s = g .before .before .before .before in
     (trits : List ℕ) → TritsIn trits (s .args .bs .now) → length trits ≡ s .args .l → (g .get4 .result < length trits) × (getD trits (g .get4 .result) 0 ≡ 2)
-here c trits T n = (omega arith, omega (arith, trit-is (c .before) trits T, c .before .trit .ensures .1))
+here c trits T n = (omega arith, omega (arith, trit-is (c .before) trits T, c .before .lone-trit .ensures .1))
 
 -- the seat of its place
 seated : (c : tie.After-seat-at) → let g = c .before .before .before .before in let s = g .before .before .before .before in
@@ -68,7 +68,7 @@ entry-key-spec =
     (λ c κs. let t = c .before .before .before .before .before .pre .2 in omega (arith, tryte-inside (t .2 .trits-in) (c .before .get4 .result / 5) (omega (arith, t .3))))
     (λ c trits H K n W S R. omega (arith, trit-is (c .before) trits (K .trits-in), rw (← c .before .before .before .get4 .ensures .0) at (R .two)))
     (λ c κs. let s = c .before .before .before .before .before .before .before in let t = s .pre .2 in (s .pre .0, (t .0, t .2 .trits-in, t .4, t .5, here c (t .0) (t .2 .trits-in) (t .3) .0)))
-    (λ c κs. let t = c .before .before .before .before .before .before .before .before .pre .2 in let T = t .2 .trits-in in (t .0, T, seated c (t .0) T (t .3) (t .4) (t .5), here (c .before) (t .0) T (t .3) .0))
+    (λ c κs. let p = c .before .before .before .before .before .before .before .before .pre in let t = p .2 in let T = t .2 .trits-in in (p .0, (t .0, T, seated c (t .0) T (t .3) (t .4) (t .5), here (c .before) (t .0) T (t .3) .0)))
     (λ c. omega (arith, room c))
     (λ c κs. room c)
     (λ c. search needs)
