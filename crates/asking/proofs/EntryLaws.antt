@@ -5,11 +5,11 @@ use mathlib.Core.Path.{_≡_}
 use mathlib.Core.List.{List}
 use lib.Dec.{lit<}
 use lib.ListN.{length, getD}
-use Rattle.format.specs.Image.{nodeCount, markWords, markSamples, markedNodes, starts, grouped}
+use Rattle.format.specs.Image.{nodeCount, markWords, markSamples, markedNodes, starts, grouped, read}
 use Rattle.format.specs.Proper.{tritsOf, shadowsOf, Whole}
 use Rattle.format.proofs.Sizes.{length-starts, length-grouped, length-markWords, length-markSamples}
 use Rattle.format.proofs.CheckLaws.{shadow-nodes}
-use Rattle.format.proofs.ImageReads.{read, number-inside, number-reads}
+use Rattle.format.proofs.ImageReads.{number-inside, number-reads}
 use Rattle.format.proofs.OnImage.{proper, sectioned}
 use Rattle.trits.specs.declared.Layout.{Layout}
 use Rattle.trits.specs.Layout.{layoutOf, Laid}

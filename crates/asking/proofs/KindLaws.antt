@@ -10,7 +10,7 @@ use lib.Dec.{eqb, ltb}
 use lib.ListN.{length, getD}
 use borrow.Author.Tests.{le-leb, lt-ltb, le-ltb}
 use Rattle.format.specs.Lists.{bit, countIn, numbered}
-use Rattle.format.specs.Trits.{rank, places, select, Selected}
+use Rattle.format.specs.Trits.{rank, places, select, Selected, nth}
 use Rattle.format.specs.Image.{nodeCount, rootCount, shadowAt, group, grouped}
 use Rattle.format.specs.Proper.{tritsOf, shadowsOf, ProperTrits}
 use Rattle.format.specs.Edges.{Edge, operandAt, edgeAt, useEdges}
@@ -20,7 +20,7 @@ use Rattle.format.proofs.Select.{select-found, place-of, place-rank, length-pla
 use Rattle.format.proofs.Sizes.{grouped-suc, length-grouped}
 use Rattle.format.proofs.ImageReads.{Each, each-append, each-kept}
 use Rattle.format.proofs.CheckLaws.{limits-nodes, shadow-nodes}
-use Rattle.format.proofs.ProperLaws.{nth, nth-selected, zeros-ones, length-trits, operand-count, use-count}
+use Rattle.format.proofs.ProperLaws.{nth-selected, zeros-ones, length-trits, operand-count, use-count}
 use Rattle.format.proofs.Lookups.{operand-at, operand-none, use-real, use-shadow, use-none}
 use Rattle.format.proofs.Outcomes.{kind-3, kind-4, kind-5, kind-6}
 use Rattle.format.proofs.OnImage.{proper}

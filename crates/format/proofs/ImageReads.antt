@@ -11,7 +11,7 @@ use lib.ListN.{length, getD, take, drop, length-drop, length-append, length-map,
 use lib.Seq.{drop-cons, drop-at, take-append-le, drop-append-le, drop-drop, getD-take, getD-drop}
 use Rattle.format.specs.Lists.{run, consIf, countIn, up, gather, Below, All, keep}
 use Rattle.format.specs.Trits.{rank, places}
-use Rattle.format.specs.Image.{leNumber, bytes, nodeCount, marks, markWords, group, grouped, markedNodes, starts, pair, pairs, lastMultiple, markSamples, Section, section1, section2, section3, section4, section5, section6, section7, section8, section9, given, written, image, shadowAt}
+use Rattle.format.specs.Image.{bytes, nodeCount, marks, markWords, group, grouped, markedNodes, starts, pair, pairs, lastMultiple, markSamples, Section, section1, section2, section3, section4, section5, section6, section7, section8, section9, given, written, image, shadowAt, read, before, sizes}
 use Rattle.format.specs.Proper.{ProperTrits}
 use Rattle.format.proofs.Laws.{length-run, getD-run, getD-each, rank-le, rank-count, count-le}
 use Rattle.format.proofs.Digits.{horner-digits, horner-lt, length-spread, spread-at, gather-at, length-gather, block, below-block, length-block}
@@ -22,10 +22,6 @@ use Rattle.format.proofs.Marks.{below-marks}
 use Rattle.format.proofs.CheckLaws.{shadow-nodes, limits-nodes, shadows-small}
 
 -- ---- a number among bytes
-
--- the number of w bytes at a place
-abbrev pub read : ℕ → ℕ → List ℕ → ℕ
-read w at b = leNumber (take w (drop at b))
 
 -- byte by byte, as code reads it; `next` is the place after `at` in whatever form the code has it
 pub read-step : (w at next : ℕ) (b : List ℕ) → next ≡ suc at → at < length b → read (suc w) at b ≡ getD b at 0 + 256 * read w next b
@@ -41,11 +37,6 @@ number-at w xs rest i h fits =
     rw (drop-append-le, take-append-le, spread-at) (horner-digits 256 w (getD xs i 0) (lit< tt) fits)
 
 -- ---- a section among sections
-
--- the bytes of the first k sections: a count of 4 bytes each, and contents, of which zs has the sizes
-abbrev pub before : List ℕ → ℕ → ℕ
-before zs zero = 0
-before zs (suc k) = before zs k + 4 + getD zs k 0
 
 abbrev pub sizeOf : Section → ℕ
 sizeOf s = length (s .contents)
@@ -243,20 +234,6 @@ uniforms trits H =
     ∷ record { section = section7 trits H; width = 2; numbers = pairs 275 (lastMultiple 65725) trits }
     ∷ record { section = section8 trits H; width = 1; numbers = pairs 25 (lastMultiple 275) trits }
     ∷ record { section = section9 trits H; width = 2; numbers = markSamples trits H }
-    ∷ []
-
--- the sizes of the nine sections' contents, by L, n, k and h
-abbrev pub sizes : ℕ → ℕ → ℕ → ℕ → List ℕ
-sizes L n k h =
-    up L 5
-    ∷ 2 * k
-    ∷ 8 * up n 64
-    ∷ 4 * (h + 1)
-    ∷ 4 * k
-    ∷ 4 * (2 * (L / 65725 + 1))
-    ∷ 2 * (2 * (L / 275 + 1))
-    ∷ 2 * (L / 25 + 1)
-    ∷ 2 * up n 64
     ∷ []
 
 pub image-sectioned : (trits H : List ℕ) → ProperTrits trits H

@@ -10,6 +10,7 @@ use lib.Dec.{ltb}
 use lib.ListN.{length, getD, drop, getElem?, length-append}
 use lib.Seq.{getD-append-add, getD-take, getD-drop}
 use borrow.Author.Tests.{lt-ltb}
+use Rattle.format.specs.Trits.{nth}
 use Rattle.format.specs.Lists.{bit, run, consIf, countIn, numbered}
 use Rattle.format.specs.Image.{nodeCount, rootCount, group, grouped}
 use Rattle.format.specs.Proper.{ProperTrits}
@@ -17,7 +18,7 @@ use Rattle.format.specs.Edges.{Edge, edgeAt, operandEdges, useEdges}
 use Rattle.format.proofs.Laws.{length-run, getD-run}
 use Rattle.format.proofs.Select.{getElem-none}
 use Rattle.format.proofs.Sizes.{length-group}
-use Rattle.format.proofs.ProperLaws.{nth, operands-places, uses-places, operand-count, use-count}
+use Rattle.format.proofs.ProperLaws.{operands-places, uses-places, operand-count, use-count}
 use Rattle.format.proofs.Marks.{group-at}
 
 -- ---- operands

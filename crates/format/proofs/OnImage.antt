@@ -3,10 +3,10 @@ use Prim.Native.Nat.{ℕ}
 use mathlib.Core.Path.{sym, subst}
 use mathlib.Core.List.{List}
 use lib.ListN.{length}
-use Rattle.format.specs.Image.{nodeCount, markedNodes, section1}
+use Rattle.format.specs.Image.{nodeCount, markedNodes, section1, sizes}
 use Rattle.format.specs.Proper.{tritsOf, shadowsOf, ProperTrits, Whole}
 use Rattle.format.proofs.CheckLaws.{Sound, image-passed}
-use Rattle.format.proofs.ImageReads.{sizes, uniforms, Sectioned, image-sectioned}
+use Rattle.format.proofs.ImageReads.{uniforms, Sectioned, image-sectioned}
 
 -- the sizes of b's nine sections
 abbrev pub sizesIn : List ℕ → List ℕ

@@ -11,7 +11,7 @@ use lib.Dec.{eqb, leb, ltb}
 use lib.ListN.{length, getD, length-map, length-append}
 use borrow.Author.Tests.{eqb-true, eq-eqb, ne-eqb, le-leb, leb-true, lt-ltb, le-ltb}
 use Rattle.format.specs.Lists.{bit, run, consIf, countIn}
-use Rattle.format.specs.Trits.{rank, places, select, Selected}
+use Rattle.format.specs.Trits.{rank, places, select, Selected, nth}
 use Rattle.format.specs.Image.{untilZero, nodeCount, rootCount, group, shadowAt}
 use Rattle.format.specs.Proper.{rootsFirst, balanced, grown, onesBefore, ProperTrits}
 use Rattle.format.specs.Edges.{edgeAt, operandEdges, useEdges}
@@ -86,10 +86,6 @@ proper-seen trits H p q l e = (go (rank 0 trits q) refl, shadow-seen trits H (p 
     go (suc x) ex = omega arith
 
 -- ---- a node's 1, its zero and the next
-
--- the place of number j, from 1
-unfoldable pub nth : ℕ → List ℕ → ℕ → ℕ
-nth t trits j = getD (places t trits) (j - 1) 0
 
 pub nth-selected : (t : ℕ) (trits : List ℕ) (j : ℕ) → 1 ≤ j → j ≤ countIn t trits → Selected t trits j (nth t trits j)
 unfolding nth

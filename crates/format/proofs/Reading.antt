@@ -8,7 +8,7 @@ use lib.ListN.{length}
 use lib.Seq.{append-snoc}
 use lib.Dec.{T, leb, eqb, leb→le, le→leb, eqb→eq, eqb-refl}
 use Rattle.format.specs.Lists.{All, numberIn, sumOf, Nodup}
-use Rattle.format.specs.Table.{Graph, nodes, Node, isNode, counted, listWords, words, Got, stopped, got, andThen, need, word, readOperands, readNodes, readRoots, readGraph, graph, wholeTable, readTable, WellFormed, WithinLimits, Front}
+use Rattle.format.specs.Table.{Graph, nodes, Node, isNode, counted, listWords, words, Got, stopped, got, andThen, need, word, readOperands, readNodes, readRoots, readGraph, graph, wholeTable, readTable, WellFormed, WithinLimits, Front, readEnd}
 use Rattle.format.proofs.Places.{nodup-mid, nodup-snoc}
 use Rattle.format.proofs.Walks.{is-node}
 
@@ -83,10 +83,6 @@ read-roots n (v ∷ vs) before rest a d =
 -- the graph of these operand lists and of the roots that r reads
 abbrev pub withRoots : List (List ℕ) → Got (List ℕ) → Got Graph
 withRoots os r = andThen r λ rs ws. got (record { operands = os; roots = rs }) ws
-
--- what is read after the operand lists
-abbrev pub readEnd : ℕ → List (List ℕ) → List ℕ → Got Graph
-readEnd n os ws = andThen (word ws) λ c ws₁. withRoots os (readRoots n c [] ws₁)
 
 -- n in order: the operand lists are read next
 pub size-on : (n : ℕ) (ws : List ℕ) → n ≤ 30000 → readGraph (n ∷ ws) ≡ andThen (readNodes n n 0 ws) (readEnd n)

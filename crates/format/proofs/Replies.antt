@@ -12,7 +12,7 @@ use lib.ListN.{length, getD, getElem?, length-map}
 use borrow.Author.Tests.{ne-eqb, le-leb, lt-leb, lt-ltb, le-ltb}
 use Rattle.format.specs.Lists.{All, bit, consIf, numbered, nodeAt, countIn}
 use Rattle.format.specs.Table.{isNode}
-use Rattle.format.specs.Trits.{rank, select, Selected}
+use Rattle.format.specs.Trits.{rank, select, Selected, nth}
 use Rattle.format.specs.Image.{nodeCount, rootCount, group}
 use Rattle.format.specs.Proper.{ProperTrits}
 use Rattle.format.specs.Edges.{Edge, operandOf, userOf, edgeAt, operandEdges, useEdges}
@@ -20,7 +20,7 @@ use Rattle.format.specs.Question.{plain, within, placeOr33, operandOr33,
 use Rattle.format.proofs.Laws.{true-both, last-false}
 use Rattle.format.proofs.Select.{select-at, select-none, getElem-none}
 use Rattle.format.proofs.Sizes.{length-group}
-use Rattle.format.proofs.ProperLaws.{nth, nth-selected, uses-places, operand-count, use-count}
+use Rattle.format.proofs.ProperLaws.{nth-selected, uses-places, operand-count, use-count}
 use Rattle.format.proofs.Facts.{group-twos}
 use Rattle.format.proofs.Lookups.{operand-at}
 use Rattle.format.proofs.Accepting.{each-all}

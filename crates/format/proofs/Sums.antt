@@ -10,7 +10,7 @@ use lib.Seq.{take-all}
 use borrow.Author.Tests.{eqb-true, ne-eqb, lt-ltb, le-ltb}
 use native.Mathlib.Decide.{decLe}
 use Rattle.format.specs.Lists.{bit, countIn}
-use Rattle.format.specs.Trits.{rank, places, Selected}
+use Rattle.format.specs.Trits.{rank, places, Selected, nth}
 use Rattle.format.specs.Image.{untilZero, nodeCount, rootCount, edgeCount}
 use Rattle.format.specs.Proper.{rootsFirst, ProperTrits}
 use Rattle.format.specs.Edges.{operandEdges, useEdges}
@@ -19,7 +19,7 @@ use Rattle.format.proofs.Select.{place-rank}
 use Rattle.format.proofs.Sizes.{total, total-counts, total-cong, total-add}
 use Rattle.format.proofs.CheckLaws.{shadow-nodes}
 use Rattle.format.proofs.EdgeLaws.{lt-of-rank}
-use Rattle.format.proofs.ProperLaws.{zeros-ones, last-zero, length-trits, nth, nth-selected, operand-count, use-count}
+use Rattle.format.proofs.ProperLaws.{zeros-ones, last-zero, length-trits, nth-selected, operand-count, use-count}
 use Rattle.format.proofs.Laws.{rank-here}
 
 -- ---- the first zero stands at c, the last at L - 1

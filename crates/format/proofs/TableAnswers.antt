@@ -10,7 +10,7 @@ use lib.ListN.{length, getD, replicate}
 use Rattle.format.specs.Lists.{oneTo, sumOf, join, countIn, nodeAt}
 use Rattle.format.specs.Table.{Graph, nodes, edges, operandsOf}
 use Rattle.format.specs.Level.{walk, levelOrder}
-use Rattle.format.specs.Trits.{select}
+use Rattle.format.specs.Trits.{select, nth}
 use Rattle.format.specs.Image.{nodeCount, edgeCount}
 use Rattle.format.specs.Packing.{Accepted}
 use Rattle.format.specs.Edges.{operandOf, userOf, operandEdges, useEdges}
@@ -25,7 +25,7 @@ use Rattle.format.proofs.Trip.{unpacked, renumbered-row}
 use Rattle.format.proofs.Sizes.{total}
 use Rattle.format.proofs.Sums.{operands-sum, uses-sum}
 use Rattle.format.proofs.Places.{map-same, all-imp, all-run}
-use Rattle.format.proofs.ProperLaws.{nth-selected, zeros-ones, nth}
+use Rattle.format.proofs.ProperLaws.{nth-selected, zeros-ones}
 use Rattle.format.proofs.Select.{select-at}
 
 module _ (table : List ℕ) (g : Graph) (a : Accepted table g) where

@@ -11,10 +11,10 @@ use lib.ListN.{length, length-append}
 use lib.Seq.{append-snoc}
 use lib.Dec.{T, leb, eqb, leb→le, le→leb, eqb→eq}
 use Rattle.format.specs.Lists.{All, numberIn, sumOf, Nodup}
-use Rattle.format.specs.Table.{Graph, Node, isNode, counted, listWords, Got, stopped, got, andThen, need, word, readOperands, readNodes, readRoots, readGraph, faulty, wholeTable, readTable, Front, OperandsFront, RootsFront, FirstFault, no-size, no-count, no-operand, no-root, nodes-above, edges-above, operand-outside, root-outside, root-again, words-after}
+use Rattle.format.specs.Table.{Graph, Node, isNode, counted, listWords, Got, stopped, got, andThen, need, word, readOperands, readNodes, readRoots, readGraph, faulty, wholeTable, readTable, Front, OperandsFront, RootsFront, FirstFault, no-size, no-count, no-operand, no-root, nodes-above, edges-above, operand-outside, root-outside, root-again, words-after, readEnd}
 use Rattle.format.proofs.Places.{all-append, sum-append, nodup-mid, nodup-snoc, number-mem, mem-number}
 use Rattle.format.proofs.Walks.{is-node}
-use Rattle.format.proofs.Reading.{node-test, zero-test, need-yes, Holds, onto, operand-on, nextLists, count-on, list-on, root-on, withRoots, readEnd, size-on, lists-on, read-graph, Operands, got-operands, Rows, got-nodes, TableOf, got-graph}
+use Rattle.format.proofs.Reading.{node-test, zero-test, need-yes, Holds, onto, operand-on, nextLists, count-on, list-on, root-on, withRoots, size-on, lists-on, read-graph, Operands, got-operands, Rows, got-nodes, TableOf, got-graph}
 
 -- ---- where the reader stops, the table has that fault
 

@@ -4,7 +4,7 @@ use mathlib.Core.Path.{_≡_}
 use mathlib.Core.Bool.{Bool}
 use mathlib.Core.List.{List, [], _∷_, _++_, map}
 use lib.Dec.{eqb, ltb}
-use lib.ListN.{length, getD}
+use lib.ListN.{length, getD, take, drop}
 use Rattle.format.specs.Lists.{oneTo, bit, each, keep, join, countIn, up, lowDigits, horner, gather, spread}
 use Rattle.format.specs.Trits.{rank, places, trytes}
 
@@ -21,6 +21,10 @@ bytes width xs = spread 256 width xs
 
 unfoldable pub fromBytes : ℕ → List ℕ → List ℕ
 fromBytes width bs = gather 256 width bs
+
+-- the number of so many bytes at a place
+abbrev pub read : ℕ → ℕ → List ℕ → ℕ
+read width at b = leNumber (take width (drop at b))
 
 -- ---- what the trits say
 
@@ -139,6 +143,25 @@ unfoldable pub image : List ℕ → List ℕ → List ℕ
 image trits H = written (section1 trits H ∷ section2 trits H ∷ given trits H)
 
 -- ---- what statements say of it
+
+-- the sizes of the nine sections' contents, by L, n, k and h
+abbrev pub sizes : ℕ → ℕ → ℕ → ℕ → List ℕ
+sizes L n k h =
+    up L 5
+    ∷ 2 * k
+    ∷ 8 * up n 64
+    ∷ 4 * (h + 1)
+    ∷ 4 * k
+    ∷ 4 * (2 * (L / 65725 + 1))
+    ∷ 2 * (2 * (L / 275 + 1))
+    ∷ 2 * (L / 25 + 1)
+    ∷ 2 * up n 64
+    ∷ []
+
+-- the bytes of the first k sections: a count of 4 bytes each, and contents, of which zs has the sizes
+abbrev pub before : List ℕ → ℕ → ℕ
+before zs zero = 0
+before zs (suc k) = before zs k + 4 + getD zs k 0
 
 -- a section's contents, read by its width, are its entries
 pub record ReadBack (trits H : List ℕ) : Type 0 where

@@ -90,12 +90,14 @@ readRoots n (suc k) before ws =
     andThen (word ws) λ v ws₁. need (isNode n v) 4 (need (eqb (numberIn v before) 0) 5
     (andThen (readRoots n k (before ++ v ∷ []) ws₁) λ vs ws₂. got (v ∷ vs) ws₂))
 
+-- behind the operand lists: the count c, then the roots
+abbrev pub readEnd : ℕ → List (List ℕ) → List ℕ → Got Graph
+readEnd n os ws =
+    andThen (word ws) λ c ws₁.
+    andThen (readRoots n c [] ws₁) λ rs ws₂. got (record { operands = os; roots = rs }) ws₂
+
 unfoldable pub readGraph : List ℕ → Got Graph
-readGraph ws =
-    andThen (word ws) λ n ws₁. need (leb n 30000) 2
-    (andThen (readNodes n n 0 ws₁) λ os ws₂.
-    andThen (word ws₂) λ c ws₃.
-    andThen (readRoots n c [] ws₃) λ rs ws₄. got (record { operands = os; roots = rs }) ws₄)
+readGraph ws = andThen (word ws) λ n ws₁. need (leb n 30000) 2 (andThen (readNodes n n 0 ws₁) (readEnd n))
 
 pub data Read : Type 0 where
   faulty : ℕ → Read

@@ -1,6 +1,6 @@
 -- Document 01, "Level order and trits": rank, select; "The image", section 1: trytes. Trits are a list of numbers below 3.
 -- Assumes nothing.
-use Prim.Native.Nat.{ℕ, suc, _<_}
+use Prim.Native.Nat.{ℕ, suc, _-_, _<_}
 use mathlib.Core.Path.{_≡_}
 use mathlib.Core.Option.{Option}
 use mathlib.Core.List.{List, [], _∷_}
@@ -19,6 +19,10 @@ places t xs = keep (λ p. eqb (getD xs p 3) t) (run 0 (length xs))
 -- select of t, number j, is the place of the j-th t, j from 1
 unfoldable pub select : ℕ → List ℕ → ℕ → Option ℕ
 select t xs j = numbered (places t xs) j
+
+-- that place as a number, where there is one
+unfoldable pub nth : ℕ → List ℕ → ℕ → ℕ
+nth t xs j = getD (places t xs) (j - 1) 0
 
 -- five trits a byte: t0 + 3·t1 + 9·t2 + 27·t3 + 81·t4; missing trits are 0
 unfoldable pub trytes : List ℕ → List ℕ

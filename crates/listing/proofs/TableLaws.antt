@@ -12,7 +12,7 @@ use borrow.Author.Tests.{eq-eqb, le-leb}
 use Rattle.format.specs.Lists.{oneTo, over}
 use Rattle.format.specs.Table.{Graph, nodes, edges, Read, faulty, graph, readTable}
 use Rattle.format.specs.Level.{walk, reached}
-use Rattle.format.specs.Image.{fromBytes, nodeCount, markedNodes, marked}
+use Rattle.format.specs.Image.{fromBytes, nodeCount, markedNodes, marked, read}
 use Rattle.format.specs.Proper.{checkImage, tritsOf, shadowsOf}
 use Rattle.format.specs.Answers.{refusalNumber}
 use Rattle.format.specs.Packing.{imageOf, Accepted, PackOutcome, packOutcome, packLeaves}
@@ -20,7 +20,6 @@ use Rattle.format.specs.Listing.{listing, refusal, tableText, listingText, List
 use Rattle.format.specs.declared.Refusal.{Refusal}
 use Rattle.format.specs.declared.Packed.the-variants as packed
 use Rattle.format.proofs.Digits.{length-gather, gather-at}
-use Rattle.format.proofs.ImageReads.{read}
 use Rattle.format.proofs.Outcomes.{length-words, pack-faulty, pack-8, pack-room, pack-accepted, true-of}
 use Rattle.format.proofs.OneToOne.{refusal-some}
 use Rattle.format.proofs.Reading.{words-read}

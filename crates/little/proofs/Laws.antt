@@ -8,11 +8,11 @@ use mathlib.Core.List.{List, [], _∷_, _++_, append-nil, append-assoc, map-appe
 use lib.ListN.{length, getD, take, drop, set, length-drop, length-take, length-append, length-set, take-append-drop}
 use lib.Seq.{take-add, drop-drop, drop-cons, drop-at, append-snoc, set-split, length-take-le, take-append-le, drop-append-le, take-append-seam, drop-append-add}
 use Rattle.format.specs.Lists.{horner, lowDigits, spread}
-use Rattle.format.specs.Image.{leBytes, bytes}
+use Rattle.format.specs.Image.{leBytes, bytes, read}
 use Rattle.format.proofs.Laws.{join-append}
 use Rattle.format.proofs.Digits.{length-digits}
 use Rattle.format.proofs.Sizes.{length-bytes}
-use Rattle.format.proofs.ImageReads.{read, number-at}
+use Rattle.format.proofs.ImageReads.{number-at}
 use Rattle.little.specs.Put.{putAt}
 
 -- ---- reading

@@ -2,8 +2,7 @@
 ghost use mathlib.Core.Path.{_≡_};
 ghost use Prim.Native.Nat.{_+_, _≤_, _<_};
 ghost use lib.ListN.{length};
-ghost use Rattle.format.specs.Image.{leBytes};
-ghost use Rattle.format.proofs.ImageReads.{read};
+ghost use Rattle.format.specs.Image.{leBytes, read};
 ghost use Rattle.little.specs.Put.{putAt};
 
 // A byte as an index.

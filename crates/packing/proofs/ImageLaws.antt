@@ -12,14 +12,14 @@ use Rattle.format.specs.Lists.{over, up, countIn}
 use Rattle.format.specs.Table.{Graph, nodes}
 use Rattle.format.specs.Level.{walk, levelOrder, reached, Counts}
 use Rattle.format.specs.Trits.{trytes}
-use Rattle.format.specs.Image.{leBytes, bytes, nodeCount, markedNodes, Section, section1, section2, section3, section4, section5, section6, section7, section8, section9, given, written, image}
+use Rattle.format.specs.Image.{leBytes, bytes, nodeCount, markedNodes, Section, section1, section2, section3, section4, section5, section6, section7, section8, section9, given, written, image, sizes}
 use Rattle.format.specs.Packing.{Accepted, imageOf}
 use Rattle.format.specs.Proper.{ProperTrits}
 use Rattle.format.proofs.Laws.{length-each, getD-each}
 use Rattle.format.proofs.Digits.{length-digits}
 use Rattle.format.proofs.Sizes.{size, length-bytes, length-written}
 use Rattle.format.proofs.CheckLaws.{shadow-nodes, limits-nodes}
-use Rattle.format.proofs.ImageReads.{sizeOf, sectionOf, uniforms, sizes, image-sectioned}
+use Rattle.format.proofs.ImageReads.{sizeOf, sectionOf, uniforms, image-sectioned}
 use Rattle.format.proofs.Order.{counts, fits-length}
 use Rattle.format.proofs.Accepting.{proper-table, packable, reads-as}
 use Rattle.little.specs.Put.{putAt}

@@ -10,9 +10,9 @@ use lib.ListN.{length, getD, drop, length-append, length-drop, drop-of-length-le
 use lib.Seq.{drop-cons, drop-drop, drop-append-seam}
 use borrow.Author.Tests.{lt-leb, ne-eqb}
 use Rattle.format.specs.Lists.{sumOf, numberIn}
-use Rattle.format.specs.Table.{Graph, edges, isNode, listWords, Got, stopped, got, andThen, word, readOperands, readNodes, readRoots, readGraph, wholeTable, readTable}
+use Rattle.format.specs.Table.{Graph, edges, isNode, listWords, Got, stopped, got, andThen, word, readOperands, readNodes, readRoots, readGraph, wholeTable, readTable, readEnd}
 use Rattle.format.proofs.Laws.{isNode-node}
-use Rattle.format.proofs.Reading.{operand-on, nextLists, count-on, root-on, withRoots, readEnd, size-on, Holds, Operands, got-operands, Rows, got-nodes, words-read}
+use Rattle.format.proofs.Reading.{operand-on, nextLists, count-on, root-on, withRoots, size-on, Holds, Operands, got-operands, Rows, got-nodes, words-read}
 use Rattle.format.proofs.Outcomes.{length-words}
 use Rattle.packing.specs.Sizes.{stepOf, sizesOf, Lists}
 

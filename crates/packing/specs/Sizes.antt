@@ -5,8 +5,7 @@ use mathlib.Core.Logic.{_⊎_, inl, inr}
 use mathlib.Core.List.{List}
 use lib.ListN.{length, drop}
 use Rattle.format.specs.Lists.{sumOf}
-use Rattle.format.specs.Table.{nodes, edges, Got, stopped, got, readGraph, Read, faulty, graph}
-use Rattle.format.proofs.Reading.{readEnd}
+use Rattle.format.specs.Table.{nodes, edges, Got, stopped, got, readGraph, Read, faulty, graph, readEnd}
 use Rattle.format.specs.Answers.{refusalNumber}
 use Rattle.packing.specs.declared.table.Step.{Step}
 use Rattle.packing.specs.declared.table.Step.the-variants.{At, Bad}

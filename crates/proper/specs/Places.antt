@@ -6,8 +6,7 @@ use mathlib.Core.List.{List}
 use lib.Dec.{eqb, leb}
 use lib.ListN.{length, getD}
 use Rattle.format.specs.Trits.{rank}
-use Rattle.format.specs.Image.{shadowAt}
-use Rattle.format.proofs.ImageReads.{read}
+use Rattle.format.specs.Image.{shadowAt, read}
 use Rattle.proper.specs.declared.placed.Seat.{Seat}
 use Rattle.proper.specs.declared.placed.Entry.{Entry}
 use Rattle.proper.specs.declared.placed.Entry.the-variants.{Wrong, Key}

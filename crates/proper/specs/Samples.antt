@@ -6,8 +6,7 @@ use mathlib.Core.List.{List}
 use lib.Dec.{eqb}
 use lib.ListN.{length}
 use Rattle.format.specs.Lists.{Below}
-use Rattle.format.specs.Image.{bytes, pairs, lastMultiple, Section}
-use Rattle.format.proofs.ImageReads.{read}
+use Rattle.format.specs.Image.{bytes, pairs, lastMultiple, Section, read}
 use Rattle.samples.specs.Samples.{Width}
 
 -- step, fan and width of sections 6, 7 and 8: levels 0, 1 and 2

@@ -3,9 +3,8 @@ use Prim.Native.Nat.{ℕ, zero, suc, _+_, _/_}
 use mathlib.Core.Path.{_≡_}
 use mathlib.Core.List.{List}
 use lib.ListN.{length}
-use Rattle.format.specs.Image.{nodeCount, rootCount, markedNodes}
+use Rattle.format.specs.Image.{nodeCount, rootCount, markedNodes, before, sizes}
 use Rattle.format.specs.Proper.{tritsOf, shadowsOf, Whole}
-use Rattle.format.proofs.ImageReads.{before, sizes}
 use Rattle.trits.specs.declared.Layout.{Layout}
 use Rattle.trits.specs.declared.Samples.{Samples}
 

@@ -6,7 +6,7 @@ use lib.ListN.{length, getD}
 use Rattle.format.specs.Lists.{Below}
 use Rattle.format.specs.Trits.{rank, trytes, tryteCount}
 use Rattle.format.specs.Proper.{tritsOf, Whole}
-use Rattle.format.proofs.ImageReads.{read}
+use Rattle.format.specs.Image.{read}
 use Rattle.trits.specs.declared.Samples.{Samples}
 use Rattle.trits.specs.declared.Spot.{Spot}
 use Rattle.trits.specs.declared.Ranks.{Ranks}

@@ -6,11 +6,11 @@ use mathlib.Core.List.{List}
 use lib.Dec.{lit<}
 use lib.ListN.{length, getD, set}
 use Rattle.format.specs.Trits.{rank}
-use Rattle.format.specs.Image.{nodeCount, rootCount, shadowAt}
+use Rattle.format.specs.Image.{nodeCount, rootCount, shadowAt, read}
 use Rattle.format.specs.Edges.{operandAt}
 use Rattle.format.specs.Proper.{tritsOf, shadowsOf, ProperTrits}
 use Rattle.format.proofs.Laws.{rank-hit, rank-miss, rank-count, rank-here}
-use Rattle.format.proofs.ImageReads.{read, number-inside, number-reads}
+use Rattle.format.proofs.ImageReads.{number-inside, number-reads}
 use Rattle.format.proofs.OnImage.{proper, sectioned}
 use Rattle.trits.specs.declared.Layout.{Layout}
 use Rattle.trits.specs.Layout.{layoutOf}

@@ -11,7 +11,7 @@ use lib.ListN.{length, getD, set, drop, length-map, drop-of-length-le, List·get
 use lib.Seq.{drop-cons, drop-at, drop-drop, getD-drop}
 use Rattle.format.specs.Lists.{run, oneTo}
 use Rattle.format.specs.Table.{counted, listWords, words}
-use Rattle.format.specs.Trits.{rank, places, Selected}
+use Rattle.format.specs.Trits.{rank, places, Selected, nth}
 use Rattle.format.specs.Image.{nodeCount, rootCount}
 use Rattle.format.specs.Edges.{operandOf, operandAt, edgeAt, operandEdges}
 use Rattle.format.specs.Proper.{ProperTrits}
@@ -19,7 +19,7 @@ use Rattle.format.specs.Unpack.{unpack}
 use Rattle.format.proofs.Laws.{length-run, getD-map-run, rank-here, rank-mono, rank-count, rank-hit, rank-miss, rank-past, rank-three}
 use Rattle.format.proofs.Select.{place-rank}
 use Rattle.format.proofs.EdgeLaws.{lt-of-rank}
-use Rattle.format.proofs.ProperLaws.{zeros-ones, nth, nth-selected, proper-seen, operands-places}
+use Rattle.format.proofs.ProperLaws.{zeros-ones, nth-selected, proper-seen, operands-places}
 use Rattle.format.proofs.Sums.{first-zero, final-zero}
 use Rattle.unpacking.specs.Standing.{wordAt, lastZero, standAt, tritPut}
 

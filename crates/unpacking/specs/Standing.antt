@@ -5,13 +5,12 @@ use mathlib.Core.Bool.{cond}
 use mathlib.Core.List.{List, _++_}
 use lib.Dec.{eqb}
 use lib.ListN.{getD, take, drop, set}
-use Rattle.format.specs.Trits.{rank}
+use Rattle.format.specs.Trits.{rank, nth}
 use Rattle.format.specs.Image.{rootCount}
 use Rattle.format.specs.Table.{words}
 use Rattle.format.specs.Edges.{operandAt}
 use Rattle.format.specs.Proper.{tritsOf, shadowsOf}
 use Rattle.format.specs.Unpack.{unpack}
-use Rattle.format.proofs.ProperLaws.{nth}
 use Rattle.trits.specs.declared.Layout.{Layout}
 use Rattle.trits.specs.Layout.{Laid}
 use Rattle.unpacking.specs.declared.Stand.{Stand}
