@@ -12,13 +12,13 @@ use lib.Seq.{drop-cons, getD-drop, drop-drop}
 use borrow.Author.Count.{below-none, below-more}
 use borrow.Author.Tests.{eqb-true, eq-eqb, le-leb, lt-ltb, le-ltb}
 use Rattle.format.specs.Lists.{run, consIf, keep, join, same, Below}
-use Rattle.format.specs.Image.{bytes, nodeCount, shadowAt, marked, markedNodes, group, grouped, starts}
+use Rattle.format.specs.Image.{bytes, nodeCount, shadowAt, marked, markedNodes, group, grouped, starts, read}
 use Rattle.format.specs.Trits.{places}
 use Rattle.format.specs.Proper.{ProperTrits}
 use Rattle.format.proofs.Laws.{both-true, true-both, last-false, same-eq}
 use Rattle.format.proofs.Sizes.{length-bytes, length-group, length-starts, grouped-suc}
 use Rattle.format.proofs.Steps.{bytes-same}
-use Rattle.format.proofs.ImageReads.{read, Each, fits4, fits5}
+use Rattle.format.proofs.ImageReads.{Each, fits4, fits5}
 use Rattle.proper.specs.Places.{key, Rises, numberIs}
 use Rattle.proper.proofs.KeyLaws.{Climbed, entries, number-in, refuted, many, climbed-none, climbed-next, climbed-wrong, climbed-all}
 

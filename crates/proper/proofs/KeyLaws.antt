@@ -12,7 +12,7 @@ use borrow.Author.Count.{below-none, below-more}
 use borrow.Author.Tests.{eqb-true, eq-eqb}
 use Rattle.format.specs.Lists.{run, each, consIf, keep, join, same, Below, RisingFrom}
 use Rattle.format.specs.Trits.{rank, places}
-use Rattle.format.specs.Image.{bytes, nodeCount, shadowAt, group, grouped}
+use Rattle.format.specs.Image.{bytes, nodeCount, shadowAt, group, grouped, read}
 use Rattle.format.specs.Proper.{ProperTrits}
 use Rattle.format.proofs.Laws.{both-true, keep-keep, getD-other, getD-each, length-each, same-eq, rank-here, rank-count}
 use Rattle.format.proofs.Select.{place-of, length-places}
@@ -21,7 +21,7 @@ use Rattle.format.proofs.Places.{mem-run, all-run, all-mem}
 use Rattle.format.proofs.Rising.{Within, rising-within}
 use Rattle.format.proofs.CheckLaws.{shadow-seen, shadow-nodes, shadows-small, limits-nodes}
 use Rattle.format.proofs.Steps.{bytes-same}
-use Rattle.format.proofs.ImageReads.{read, number-at, Each, each-append, each-kept, fits5}
+use Rattle.format.proofs.ImageReads.{number-at, Each, each-append, each-kept, fits5}
 use Rattle.proper.specs.Known.{Known}
 use Rattle.proper.specs.Places.{key, Rises}
 

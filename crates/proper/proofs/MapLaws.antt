@@ -12,14 +12,14 @@ use lib.ListN.{length, getD, set, take, drop, replicate, length-set, length-repl
 use lib.Seq.{take-suc, take-all}
 use borrow.Author.Tests.{eq-eqb, ne-eqb, lt-ltb}
 use Rattle.format.specs.Lists.{bit, countIn, up, same, lowDigits, Below}
-use Rattle.format.specs.Image.{bytes, nodeCount, marked, marks, markWords}
+use Rattle.format.specs.Image.{bytes, nodeCount, marked, marks, markWords, read}
 use Rattle.format.specs.Table.{AllNodes}
 use Rattle.format.specs.Proper.{ProperTrits}
 use Rattle.format.proofs.Digits.{horner-digits, horner-ext, digits-at, gather-at, getD-block, length-digits, length-block}
 use Rattle.format.proofs.Sizes.{length-marks, length-markWords}
 use Rattle.format.proofs.Marks.{marks-at}
 use Rattle.format.proofs.CheckLaws.{limits-nodes}
-use Rattle.format.proofs.ImageReads.{read, fits3}
+use Rattle.format.proofs.ImageReads.{fits3}
 use Rattle.format.proofs.Steps.{bytes-same, bytes-differ}
 use Rattle.marks.specs.Bits.{bitOf, BitSet, bitIn}
 use Rattle.marks.proofs.BitLaws.{bit-none, bit-same, bit-other}

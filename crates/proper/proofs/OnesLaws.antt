@@ -11,14 +11,14 @@ use lib.ListN.{length, getD, take, drop}
 use borrow.Author.Count.{below-more}
 use Rattle.format.specs.Lists.{bit, keep, run, countIn, up, horner, same, Below}
 use Rattle.format.specs.Trits.{rank}
-use Rattle.format.specs.Image.{bytes, nodeCount, marked, marks, markWords, markedNodes, markSamples}
+use Rattle.format.specs.Image.{bytes, nodeCount, marked, marks, markWords, markedNodes, markSamples, read}
 use Rattle.format.proofs.Laws.{rank-add, rank-past, rank-count, count-le, getD-each}
 use Rattle.format.proofs.Digits.{gather-at, below-block, le-up}
 use Rattle.format.proofs.Select.{length-consIf}
 use Rattle.format.proofs.Sizes.{length-bytes, length-marks, length-markWords, length-markSamples}
 use Rattle.format.proofs.Marks.{below-marks}
 use Rattle.format.proofs.CheckLaws.{limits-nodes}
-use Rattle.format.proofs.ImageReads.{read, number-at, fits3, fits9}
+use Rattle.format.proofs.ImageReads.{number-at, fits3, fits9}
 use Rattle.format.proofs.Steps.{bytes-same, bytes-differ}
 use Rattle.marks.proofs.MarkLaws.{ones-horner}
 use Rattle.proper.specs.Known.{Marked}

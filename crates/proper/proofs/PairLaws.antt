@@ -11,11 +11,11 @@ use lib.ListN.{length, getD}
 use borrow.Author.Count.{below-none, below-more}
 use borrow.Author.Tests.{eqb-true, eqb-false, not-true, not-false}
 use Rattle.format.specs.Lists.{same, Below}
-use Rattle.format.specs.Image.{bytes, pair, pairs, lastMultiple}
+use Rattle.format.specs.Image.{bytes, pair, pairs, lastMultiple, read}
 use Rattle.format.proofs.Laws.{both-true}
 use Rattle.format.proofs.Sizes.{length-pairs}
 use Rattle.format.proofs.Steps.{bytes-same, bytes-differ}
-use Rattle.format.proofs.ImageReads.{read, pairs-at, fits6, fits7, fits8}
+use Rattle.format.proofs.ImageReads.{pairs-at, fits6, fits7, fits8}
 use Rattle.samples.specs.declared.Counts.{Counts}
 use Rattle.samples.specs.Lent.{TritsIn}
 use Rattle.samples.specs.Samples.{Width, Counting, Step}

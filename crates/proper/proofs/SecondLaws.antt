@@ -11,7 +11,7 @@ use lib.Seq.{drop-cons}
 use borrow.Author.Tests.{eqb-true}
 use Rattle.format.specs.Lists.{bit, every, consIf, countIn}
 use Rattle.format.specs.Trits.{rank, untrytes}
-use Rattle.format.specs.Image.{fromBytes, shadowAt}
+use Rattle.format.specs.Image.{fromBytes, shadowAt, read}
 use Rattle.format.specs.Table.{isNode}
 use Rattle.format.specs.Proper.{shadowsSeen}
 use Rattle.format.proofs.Laws.{rank-zero, rank-le, rank-here, rank-count}
@@ -19,7 +19,6 @@ use Rattle.format.proofs.Digits.{gather-at, le-up}
 use Rattle.format.proofs.Sizes.{length-trytes}
 use Rattle.format.proofs.Select.{placesFrom, places-from}
 use Rattle.format.proofs.CheckLaws.{untrytes-trytes}
-use Rattle.format.proofs.ImageReads.{read}
 use Rattle.samples.specs.Lent.{TritsIn}
 use Rattle.proper.specs.SecondSays.{entryRight}
 use Rattle.proper.proofs.FirstLaws.{rank-turn}

@@ -6,13 +6,13 @@ use mathlib.Core.List.{List, [], _∷_, _++_, append-nil}
 use lib.Dec.{eqb}
 use lib.ListN.{length, getD}
 use Rattle.format.specs.Lists.{bit, countIn}
-use Rattle.format.specs.Image.{bytes, nodeCount}
+use Rattle.format.specs.Image.{bytes, nodeCount, read}
 use Rattle.format.specs.Table.{AllNodes}
 use Rattle.format.specs.Proper.{ProperTrits}
 use Rattle.format.proofs.Laws.{count-append}
 use Rattle.format.proofs.Sizes.{length-bytes}
 use Rattle.format.proofs.CheckLaws.{shadow-nodes, shadows-small}
-use Rattle.format.proofs.ImageReads.{read, number-at}
+use Rattle.format.proofs.ImageReads.{number-at}
 use Rattle.proper.specs.Known.{Shadowed}
 
 pub all-nodes : {trits H : List ℕ} → ProperTrits trits H → AllNodes (nodeCount trits) H

@@ -3,6 +3,7 @@
 use little::get2;
 use little::get4;
 use little::wide;
+use trits::power;
 use trits::tryte_count;
 ghost use mathlib.Core.Path.{_≡_};
 ghost use mathlib.Core.Bool.{_&&_};
@@ -11,8 +12,7 @@ ghost use Prim.Native.Nat.{ℕ, _+_, _*_, _^_, _≤_, _<_};
 ghost use lib.ListN.{length, getD};
 ghost use Rattle.format.specs.Lists.{same, spread, countIn};
 ghost use Rattle.format.specs.Trits.{rank, tryteTable};
-ghost use Rattle.format.specs.Image.{bytes, nodeCount, markedNodes, grouped, starts};
-ghost use Rattle.format.proofs.ImageReads.{read};
+ghost use Rattle.format.specs.Image.{bytes, nodeCount, markedNodes, grouped, starts, read};
 ghost use Rattle.samples.specs.Lent.{TritsIn};
 ghost use Rattle.proper.specs.Known.{Known};
 ghost use Rattle.proper.specs.Places.{TwosAt, Filled, Seated, SeatOf, Answered, numberIs};
@@ -96,20 +96,6 @@ fn seat_at(bs: &[u8], table: &[u8; 243], twos: &[u16; 1932], last: Seat, p: usiz
     let from = 13 * i;
     let before = twos_to(bs, table, from, end, sample);
     Seat { tryte: end, before }
-}
-
-// 3 to the power `r`.
-fn power(r: usize) -> usize
-    requires { ⌜ r < 5 ⌝ }
-    ensures { λ w. ⌜ (w ≡ 3 ^ r) × (0 < w) ⌝ }
-{
-    match r {
-        0 => 1,
-        1 => 3,
-        2 => 9,
-        3 => 27,
-        _ => 81,
-    }
 }
 
 // Trit `p` of trytes, by one division: the places of section 5 come in no order that a branch could follow.

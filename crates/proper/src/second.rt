@@ -7,9 +7,8 @@ ghost use mathlib.Core.List.{List};
 ghost use Prim.Native.Nat.{ℕ, _+_, _*_, _≤_};
 ghost use lib.ListN.{length};
 ghost use Rattle.format.specs.Lists.{countIn};
-ghost use Rattle.format.specs.Image.{fromBytes};
+ghost use Rattle.format.specs.Image.{fromBytes, read};
 ghost use Rattle.format.specs.Proper.{shadowsSeen};
-ghost use Rattle.format.proofs.ImageReads.{read};
 ghost use Rattle.samples.specs.Lent.{TritsIn};
 ghost use Rattle.proper.specs.SecondSays.{entryRight};
 

@@ -9,11 +9,11 @@ use mir.Syntax.{w8}
 use mir.Val.{Fits}
 use lib.ListN.{length, getD}
 use Rattle.format.specs.Trits.{rank}
-use Rattle.format.specs.Image.{pairs, lastMultiple}
+use Rattle.format.specs.Image.{pairs, lastMultiple, read}
 use Rattle.format.specs.Proper.{tritsOf, checkImage, Whole}
 use Rattle.format.proofs.Laws.{rank-zero, rank-mono, rank-three}
 use Rattle.format.proofs.Sizes.{length-pairs}
-use Rattle.format.proofs.ImageReads.{read, pairs-at, number-inside, number-reads}
+use Rattle.format.proofs.ImageReads.{pairs-at, number-inside, number-reads}
 use Rattle.format.proofs.OnImage.{proper, sectioned}
 use Rattle.trits.specs.declared.Layout.{Layout}
 use Rattle.trits.specs.declared.Samples.{Samples}

@@ -1,22 +1,20 @@
 -- Rank and the search by trytes and trits: a tryte x of the trits counts on from its first place, and division takes its trits off. Assumes nothing.
 use Prim.Native.Nat.{ℕ, zero, suc, _+_, _-_, _*_, _/_, _%_, _^_, _≤_, _<_}
-use native.Mathlib.Nat.{div-one, div-div-eq-div-mul, pow-zero, pow-suc, sub-self, zero-add}
+use native.Mathlib.Nat.{zero-add}
 use native.Mathlib.Omega.{arith}
 use native.Mathlib.Decide.{decLe}
-use native.Mathlib.Numerals.{add-one}
 use mathlib.Core.Path.{_≡_, refl, sym, ap, _∙_}
-use mathlib.Core.Logic.{_⊎_, inl, inr, ⊎-elim}
 use mathlib.Core.Bool.{Bool, true, _&&_, cond}
 use mathlib.Core.List.{List}
 use lib.Dec.{eqb, ltb, lit<, lit≤}
-use lib.ListN.{length, getD, take, drop}
+use lib.ListN.{length, getD, drop}
 use lib.Seq.{getD-take, getD-drop}
 use borrow.Author.Tests.{eqb-true, ltb-true, lt-ltb}
-use Rattle.format.specs.Lists.{bit, run, every, countIn, lowDigits, spread}
+use Rattle.format.specs.Lists.{bit, run, every, lowDigits, spread}
 use Rattle.format.specs.Image.{section1}
 use Rattle.format.specs.Proper.{tritsOf, Whole}
 use Rattle.format.specs.Trits.{rank, trytes, tryteCount, tryteTable, Selected}
-use Rattle.format.proofs.Laws.{both-true, every-run, rank-past, rank-mono, rank-three, rank-le, rank-count, rank-hit, rank-miss}
+use Rattle.format.proofs.Laws.{both-true, every-run, rank-past, rank-mono, rank-three, rank-le}
 use Rattle.format.proofs.Digits.{below-digits, length-digits, digits-at, spread-at, lt-up}
 use Rattle.format.proofs.Select.{rank-tryte, trit-at}
 use Rattle.format.proofs.Tryte.{tryte-entry}
@@ -83,31 +81,6 @@ pub cut-entry : (x r : ℕ) → x < 243 → r < 5 → getD tryteTable (x % 3 ^ r
 unfolding cut-right
 cut-entry x r h l =
     eqb-true _ _ (every-from (λ r. eqb (getD tryteTable (x % 3 ^ r) 0) (tryteCount 0 x r + (5 - r) + 8 * tryteCount 1 x r)) 5 (every-from cut-right 243 all-cut x h) r l)
-
--- division takes a trit off
-one-less : (x i : ℕ) → x / 3 ^ i / 3 ≡ x / 3 ^ (i + 1)
-one-less x i = rw (div-div-eq-div-mul, add-one, pow-suc)
-
--- n of t stand in the first i trits of tryte x, which leave a number
-pub record Passed (t x n left i : ℕ) : Type 0 where
-  pub counted : n ≡ tryteCount t x i
-  pub leaves : left ≡ x / 3 ^ i
-
-pub none-passed : (t x : ℕ) → Passed t x 0 x 0
-unfolding tryteCount
-none-passed t x = record { counted = refl; leaves = rw (pow-zero, div-one) }
-
-module _ {t x n left i : ℕ} (v : Passed t x n left i) (h : i < length (lowDigits 3 5 x)) where
-  there : getD (lowDigits 3 5 x) i 0 ≡ left % 3
-  there = rw (v .leaves) (digits-at 3 5 x i h)
-
-  pub passed-hit : left % 3 ≡ t → Passed t x (n + 1) (left / 3) (i + 1)
-  unfolding tryteCount rank
-  passed-hit y = record { counted = omega (arith, v .counted, rank-hit t (lowDigits 3 5 x) i h (there ∙ y)); leaves = rw (v .leaves, one-less) }
-
-  pub passed-miss : (left % 3 ≡ t → ⊥) → Passed t x n (left / 3) (i + 1)
-  unfolding tryteCount rank
-  passed-miss y = record { counted = omega (arith, v .counted, rank-miss t (lowDigits 3 5 x) i h (λ e. y (sym there ∙ e))); leaves = rw (v .leaves, one-less) }
 
 -- ---- tryte q of the trits
 

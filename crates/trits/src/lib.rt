@@ -15,7 +15,7 @@ ghost use Rattle.format.specs.Lists.{countIn, spread};
 ghost use Rattle.format.specs.Trits.{rank, select, tryteCount, tryteTable, Selected};
 ghost use Rattle.format.specs.Proper.{checkImage, tritsOf};
 ghost use Rattle.format.specs.Answers.{foundPlace};
-ghost use Rattle.format.proofs.ImageReads.{read};
+ghost use Rattle.format.specs.Image.{read};
 ghost use Rattle.trits.specs.Layout.{layout, layoutOf, Laid, farOf, middleOf, nearOf, totalOf};
 ghost use Rattle.trits.specs.Search.{Sampled, Tryte, Spotted, PlaceIn, ranksOf, frontOf};
 
@@ -396,27 +396,8 @@ pub fn tryte_count(table: &[u8; 243], x: usize, t: usize) -> usize
     5 - e % 8 - e / 8
 }
 
-// How often `t` stands in the first `r` trits of tryte `x`, by division.
-pub fn tryte_part(x: usize, t: usize, r: usize) -> usize
-    requires { ⌜ r ≤ 5 ⌝ }
-    ensures { λ n. ⌜ (n ≡ tryteCount t x r) × (n ≤ 5) ⌝ }
-{
-    let mut n: usize = 0;
-    let mut left = x;
-    let mut i: usize = 0;
-    while i < r {
-        let trit = left % 3;
-        left /= 3;
-        i += 1;
-        if trit == t {
-            n += 1;
-        }
-    }
-    n
-}
-
 // 3 to the power `r`.
-fn power(r: usize) -> usize
+pub fn power(r: usize) -> usize
     requires { ⌜ r < 5 ⌝ }
     ensures { λ w. ⌜ (w ≡ 3 ^ r) × (0 < w) ⌝ }
 {
@@ -576,7 +557,7 @@ fn rank_block(image: &[u8], lay: Layout, t: usize, g: usize) -> usize
     six + seven + eight
 }
 
-// The trytes from `from` up to `end` on top of the zeros and ones before `from`: at most five.
+// The trytes from `from` up to `end` on top of the zeros and ones before `from`: at most four.
 fn rank_trytes(
     image: &[u8],
     table: &[u8; 243],
@@ -585,7 +566,7 @@ fn rank_trytes(
     end: usize,
     before: Ranks,
 ) -> Ranks
-    requires { ⌜ (Laid (now image) lay) × (now table ≡ tryteTable) × (from ≤ end) × (end ≤ from + 5) × (5 * end ≤ length (tritsOf (now image))) × (before ≡ ranksOf (tritsOf (now image)) (5 * from)) ⌝ }
+    requires { ⌜ (Laid (now image) lay) × (now table ≡ tryteTable) × (from ≤ end) × (end ≤ from + 4) × (5 * end ≤ length (tritsOf (now image))) × (before ≡ ranksOf (tritsOf (now image)) (5 * from)) ⌝ }
     ensures { λ r. ⌜ r ≡ ranksOf (tritsOf (now (image .entry))) (5 * end) ⌝ }
 {
     let mut zeros = before.zeros;
@@ -600,7 +581,7 @@ fn rank_trytes(
     Ranks { zeros, ones }
 }
 
-// The zeros and ones before place `p`, up to L: its block's, at most five whole trytes, and part of one.
+// The zeros and ones before place `p`, up to L: its block's, at most four whole trytes, and part of one.
 pub fn rank_both(image: &[u8], table: &[u8; 243], lay: Layout, p: usize) -> Ranks
     requires { ⌜ (checkImage (now image) ≡ 0) × (now table ≡ tryteTable) × (lay ≡ layoutOf (now image)) × (p ≤ length (tritsOf (now image))) ⌝ }
     ensures { λ r. ⌜ r ≡ ranksOf (tritsOf (now (image .entry))) p ⌝ }
@@ -681,7 +662,7 @@ fn last_tryte(trits: usize, first: usize) -> usize
     last
 }
 
-// The tryte in which the `t` number `j` stands, from its block. All five are looked at, so that no branch is to be guessed.
+// The tryte in which the `t` number `j` stands, from its block: four are counted, found or not, so that no branch is to be guessed.
 fn find_tryte(image: &[u8], table: &[u8; 243], lay: Layout, t: usize, j: usize, s: Spot) -> Spot
     requires { ⌜ (Laid (now image) lay) × (now table ≡ tryteTable) × (t < 3) × (Spotted 25 t (tritsOf (now image)) j s) ⌝ }
     ensures { λ r. ⌜ Spotted 5 t (tritsOf (now (image .entry))) j r ⌝ }

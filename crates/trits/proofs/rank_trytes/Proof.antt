@@ -3,7 +3,6 @@ use Prim.Native.Nat.{_-_, _*_, _≤_}
 use native.Mathlib.Omega.{arith}
 use mathlib.Core.Path.{_≡_, ap}
 use lib.Dec.{lit<}
-use borrow.Author.Needs.{needs}
 use Rattle.format.specs.Trits.{rank}
 use Rattle.format.specs.Proper.{tritsOf}
 use Rattle.trits.proofs.Levels.{few}

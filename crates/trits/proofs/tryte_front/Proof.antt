@@ -1,5 +1,5 @@
 -- `trits::tryte_front` meets its contract: the entry of the cut tryte, by `cut-entry`. Assumes nothing.
-use Prim.Native.Nat.{_+_, _-_, _*_, _%_, _^_}
+use Prim.Native.Nat.{_+_, _-_, _*_, _%_}
 use native.Mathlib.Omega.{arith}
 use native.Mathlib.Nat.{mod-le}
 use mathlib.Core.Path.{_≡_, ap, _∙_}

@@ -6,7 +6,7 @@ use borrow.Author.Count.{below-none, below-more}
 use borrow.Author.Needs.{needs}
 use lib.ListN.{getD}
 use Rattle.format.proofs.CheckLaws.{limits-nodes}
-use Rattle.format.proofs.ImageReads.{read}
+use Rattle.format.specs.Image.{read}
 use Rattle.proper.proofs.MapLaws.{words-wrong, words-same}
 use Rattle.proper.proofs.marked.words_right.Statement.{statement}
 use Rattle.proper.proofs.marked.words_right.Tie as tie

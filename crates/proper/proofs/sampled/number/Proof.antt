@@ -3,7 +3,7 @@ use Prim.Native.Nat.{ℕ, _*_}
 use mathlib.Core.Path.{_≡_, sym, ap, _∙_}
 use native.Mathlib.Omega.{arith}
 use borrow.Author.Needs.{needs}
-use Rattle.format.proofs.ImageReads.{read}
+use Rattle.format.specs.Image.{read}
 use Rattle.proper.proofs.sampled.number.Statement.{statement}
 use Rattle.proper.proofs.sampled.number.Tie as tie
 
