@@ -1,4 +1,4 @@
--- What a question is about: a node of an accepted image, the place of an edge. Assumes nothing.
+-- What a question is about: a node of a proper image, the place of an edge. Assumes nothing.
 use Prim.Native.Nat.{ℕ, _≤_, _<_}
 use mathlib.Core.Path.{_≡_}
 use mathlib.Core.List.{List}

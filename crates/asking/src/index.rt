@@ -1,4 +1,4 @@
-// What sections 2 to 5 and 9 of a checked image say.
+// What sections 2 to 5 and 9 of a proper image say.
 use little::get2;
 use little::get4;
 use little::get8;

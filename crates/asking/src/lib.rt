@@ -1,4 +1,4 @@
-// One question about a checked image, and batches of them.
+// One question about a proper image, and batches of them.
 pub mod batch;
 pub mod index;
 pub mod question;

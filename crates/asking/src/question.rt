@@ -210,7 +210,7 @@ fn user(image: &[u8], table: &[u8; 243], lay: Layout, a: usize, b: usize) -> Ans
     listed(user, Sort::Real)
 }
 
-// Kinds 3 to 6: `a` is a node.
+// Kinds 3 to 6: `a` must be a node (32).
 fn of_node(image: &[u8], table: &[u8; 243], lay: Layout, kind: u32, a: usize, b: usize) -> Answer
     requires { ⌜ (Laid (now image) lay) × (now table ≡ tryteTable) × (3 ≤ kind) × (kind ≤ 6) ⌝ }
     ensures { λ r. ⌜ answerNumbers r ≡ answer (tritsOf (now (image .entry))) (shadowsOf (now (image .entry))) kind a b ⌝ }
@@ -230,7 +230,7 @@ fn of_node(image: &[u8], table: &[u8; 243], lay: Layout, kind: u32, a: usize, b:
     }
 }
 
-// Answers one question about a checked image.
+// Answers one question about a proper image.
 pub fn answer(
     image: &[u8],
     table: &[u8; 243],

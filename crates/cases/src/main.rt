@@ -1,5 +1,5 @@
-// The cases of the buyer's rules that are run and not proved: a line each, in the order of the rules' own lists, compared with the file stdout.
-// Work is lent full of sevens, so that a line can say how many of its words became zero and how many stayed.
+// The buyer's rules, run: a line for each case of "Both sides of each line" that is not proved alone, for each refusal, and for each error seen in packers,
+// compared with the file stdout. Work is lent full of sevens, so that a line can say how many of its words became zero and how many stayed.
 ghost use mathlib.Core.Path.{_≡_};
 ghost use Prim.Native.Nat.{_<_};
 use format::Checked;
@@ -166,11 +166,12 @@ fn drawn_table() -> [u16; 22] {
 fn drawn_packed() {
     let table = drawn_table();
     let mut order = [0u16; 8];
-    let mut work = [7u32; 30];
     let mut image = [0u8; 105];
     let mut short_order = [0u16; 7];
-    let mut short_work = [7u32; 23];
     let mut short_image = [0u8; 104];
+    let mut short_work = [7u32; 23];
+    let mut work = [7u32; 30];
+    let mut more_work = [7u32; 30];
     pack_in(
         b"drawn graph, order list of 7: ",
         &table,
@@ -192,7 +193,13 @@ fn drawn_packed() {
         &mut work,
         &mut short_image,
     );
-    pack_in(b"drawn graph: ", &table, &mut order, &mut work, &mut image);
+    pack_in(
+        b"drawn graph: ",
+        &table,
+        &mut order,
+        &mut more_work,
+        &mut image,
+    );
 }
 
 // 30,000 nodes, all roots, no edges.
@@ -257,11 +264,16 @@ fn cut(name: &[u8], size: usize) {
     check(name, front_bytes(&image, size));
 }
 
-// That image with one byte changed.
-fn damaged(name: &[u8], at: usize, byte: u8) {
+// That image with two bytes changed, or one.
+fn damaged_twice(name: &[u8], at: usize, byte: u8, other: usize, with: u8) {
     let mut image = drawn();
     put(&mut image, at, byte);
+    put(&mut image, other, with);
     check(name, front_bytes(&image, 105));
+}
+
+fn damaged(name: &[u8], at: usize, byte: u8) {
+    damaged_twice(name, at, byte, at, byte);
 }
 
 fn put(image: &mut [u8], at: usize, byte: u8) {
@@ -279,13 +291,16 @@ fn images_cut() {
     cut(b"a byte missing", 104);
 }
 
+// Each line breaks the rule that it names and no other of section 1's.
 fn trits_wrong() {
     damaged(b"L too large", 2, 2);
     damaged(b"L 0", 0, 0);
-    damaged(b"a byte of 243", 4, 243);
+    damaged(b"a byte of 243", 8, 243);
     damaged(b"padding not 0", 8, 3);
-    damaged(b"a 2 before the first zero", 4, 38);
-    damaged(b"the last trit 1", 8, 1);
+    damaged(b"a 2 before the first zero", 4, 68);
+    damaged(b"a zero before its one", 4, 109);
+    damaged(b"a one too many", 4, 40);
+    damaged_twice(b"a last trit of 2", 7, 6, 8, 2);
 }
 
 fn index_wrong() {
@@ -422,7 +437,11 @@ fn pack_ask(words: &[u8], kind: u32, a: u32, b: u32) {
     say(b"table");
     say_short_words(front(&table, size));
     match packing::pack::pack(front(&table, size), &mut order, &mut work, &mut image) {
-        Packed::Refused(f) => say_refused(f),
+        Packed::Refused(f) => {
+            say(b": ");
+            say_refused(f);
+            say(b"\n");
+        }
         Packed::Image(size) => ask(
             b"",
             front_bytes(&image, size),
@@ -435,7 +454,7 @@ fn pack_ask(words: &[u8], kind: u32, a: u32, b: u32) {
 
 // Trytes counted from n + m + c; a user lost; a sample too few where L is 25; H held to n alone; operands by the table's numbers.
 fn errors_seen() {
-    one(b"the last trit of the drawn graph", 0, 20, 0);
+    one(b"the ninth zero of the drawn graph, its last trit", 2, 0, 9);
     one(b"uses of node 7", 5, 7, 0);
     one(b"user 3 of node 7", 6, 7, 3);
     pack_ask(

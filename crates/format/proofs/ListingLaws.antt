@@ -29,7 +29,7 @@ unfolding listingText
 listing-61 input (inl odd) = simp (ne-eqb (length input % 2) 0 odd)
 listing-61 input (inr long) = simp (last-false (eqb (length input % 2) 0) (leb (length input) 8000) (lt-leb (length input) 8000 long))
 
-listing-table : (input : List ℕ) → length input % 2 ≡ 0 → length input ≤ 8000 → listingText input ≡ tableText (readTable (fromBytes 2 input))
+pub listing-table : (input : List ℕ) → length input % 2 ≡ 0 → length input ≤ 8000 → listingText input ≡ tableText (readTable (fromBytes 2 input))
 unfolding listingText
 listing-table input even short =
     simp (true-both (eqb (length input % 2) 0) (leb (length input) 8000) (eq-eqb (length input % 2) 0 even) (le-leb (length input) 8000 short))

@@ -78,7 +78,7 @@ tableText (graph g) = let w = walk g in cond (reached g) (listing (w .trits) (w 
 unfoldable pub listingText : List ℕ → List ℕ
 listingText input = cond (eqb (length input % 2) 0 && leb (length input) 8000) (tableText (readTable (fromBytes 2 input))) (refusal 61)
 
--- ---- the outcome: the text's length, and the text over the front of the buffer that it is written to, which has at least 100,000 bytes (no text is longer)
+-- ---- the outcome: the text's length, and the text over the front of the buffer that it is written to, of 100,000 bytes (no text is longer)
 
 pub record ListingOutcome : Type 0 where
   pub size : ℕ

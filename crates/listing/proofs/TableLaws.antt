@@ -8,7 +8,6 @@ use mathlib.Core.List.{List, _++_}
 use lib.Dec.{T}
 use lib.ListN.{length, getD, take, drop, length-append}
 use lib.Seq.{take-append-seam}
-use borrow.Author.Tests.{eq-eqb, le-leb}
 use Rattle.format.specs.Lists.{oneTo, over}
 use Rattle.format.specs.Table.{Graph, nodes, edges, Read, faulty, graph, readTable}
 use Rattle.format.specs.Level.{walk, reached}
@@ -123,10 +122,6 @@ packs table order work buffer e =
     wrote-image table (r .of) (r .is) buffer (ap (λ (x : PackOutcome). x .returned .value) q) (ap (λ (x : PackOutcome). x .image) q)
 
 -- ---- the outcome
-
-pub text-table : (input : List ℕ) → length input % 2 ≡ 0 → length input ≤ 8000 → listingText input ≡ tableText (readTable (fromBytes 2 input))
-unfolding listingText
-text-table input even few = simp (eq-eqb (length input % 2) 0 even, le-leb (length input) 8000 few)
 
 module _ (input : List ℕ) {text word : List ℕ} (e : listingText input ≡ word) where
   pub text-room : 100000 ≤ length text → Room text 0 word

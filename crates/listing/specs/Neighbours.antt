@@ -12,7 +12,7 @@ use Rattle.format.specs.Listing.{text, decimal}
 use Rattle.trits.specs.declared.Layout.{Layout}
 use Rattle.trits.specs.Layout.{layoutOf}
 
--- an accepted image, the table of trytes, and the image's layout
+-- a proper image, the table of trytes, and the image's layout
 pub record Asking (image table : List ℕ) (lay : Layout) : Type 0 where
   pub proper : checkImage image ≡ 0
   pub trytes : table ≡ tryteTable

@@ -19,7 +19,7 @@ ghost use Rattle.format.specs.Proper.{checkImage, tritsOf, shadowsOf};
 ghost use Rattle.format.specs.Listing.{listing, tableText, listingOutcome, listingLeaves};
 ghost use Rattle.listing.specs.Wrote.{Room, Wrote};
 
-// Puts the listing of an accepted image.
+// Puts the listing of a proper image.
 fn put_listing(text: &mut [u8], image: &[u8]) -> usize
     requires { ⌜ (checkImage (now image) ≡ 0) × Room (now text) 0 (listing (tritsOf (now image)) (shadowsOf (now image))) ⌝ }
     ensures { λ r. ⌜ Wrote (now (text .entry)) 0 (listing (tritsOf (now (image .entry))) (shadowsOf (now (image .entry)))) r (now (text .exit)) ⌝ }

@@ -56,23 +56,23 @@ fn put_neighbour(text: &mut [u8], at: usize, found: Answer) -> usize
     end
 }
 
-// Puts a mark, and behind it the operands of node `i`, counted by kind 3, or its users, counted by kind 5.
+// Puts a sign, and behind it the operands of node `i`, counted by kind 3, or its users, counted by kind 5.
 fn put_neighbours(
     text: &mut [u8],
     at: usize,
-    mark: &[u8],
+    sign: &[u8],
     image: &[u8],
     table: &[u8; 243],
     lay: Layout,
     kind: u32,
     i: u32,
 ) -> usize
-    requires { ⌜ (Asking (now image) (now table) lay) × (kind < 6) × Room (now text) at (now mark ++ neighbours (now image) kind i) ⌝ }
-    ensures { λ r. ⌜ Wrote (now (text .entry)) at (now (mark .entry) ++ neighbours (now (image .entry)) kind i) r (now (text .exit)) ⌝ }
+    requires { ⌜ (Asking (now image) (now table) lay) × (kind < 6) × Room (now text) at (now sign ++ neighbours (now image) kind i) ⌝ }
+    ensures { λ r. ⌜ Wrote (now (text .entry)) at (now (sign .entry) ++ neighbours (now (image .entry)) kind i) r (now (text .exit)) ⌝ }
 {
     let each = kind + 1;
     let count = value(answer(image, table, lay, kind, i, 0));
-    let mut end = put_word(text, at, mark);
+    let mut end = put_word(text, at, sign);
     let mut b: u32 = 0;
     while b < count {
         b += 1;

@@ -1,4 +1,4 @@
--- The numbers of an accepted image, where the contents of its sections start, and its three levels of samples. Assumes nothing.
+-- The numbers of a proper image, where the contents of its sections start, and its three levels of samples. Assumes nothing.
 use Prim.Native.Nat.{ℕ, zero, suc, _+_, _/_}
 use mathlib.Core.Path.{_≡_}
 use mathlib.Core.List.{List}
@@ -32,7 +32,7 @@ layout L n c k h =
 unfoldable pub layoutOf : List ℕ → Layout
 layoutOf b = layout (length (tritsOf b)) (nodeCount (tritsOf b)) (rootCount (tritsOf b)) (length (shadowsOf b)) (length (markedNodes (tritsOf b) (shadowsOf b)))
 
--- b is an accepted image, and lay its layout
+-- b is a proper image, and lay its layout
 pub record Laid (b : List ℕ) (lay : Layout) : Type 0 where
   pub whole : Whole b
   pub is : lay ≡ layoutOf b

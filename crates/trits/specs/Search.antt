@@ -11,7 +11,7 @@ use Rattle.trits.specs.declared.Samples.{Samples}
 use Rattle.trits.specs.declared.Spot.{Spot}
 use Rattle.trits.specs.declared.Ranks.{Ranks}
 
--- In the accepted image b, s is a level of samples: pairs, zeros then ones, of so many bytes a number, before each multiple of its step up to the
+-- In the proper image b, s is a level of samples: pairs, zeros then ones, of so many bytes a number, before each multiple of its step up to the
 -- last, each counted from the last multiple of fan steps.
 pub record Sampled (b : List ℕ) (s : Samples) : Type 0 where
   pub whole : Whole b

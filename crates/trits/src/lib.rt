@@ -1,4 +1,4 @@
-// Trits, rank and select on a checked image: three levels of samples, then trytes, then trits.
+// Trits, rank and select on a proper image: three levels of samples, then trytes, then trits.
 // A tryte is five trits in a byte; a block is 25 trits, five trytes.
 use format::FAR;
 use format::Found;

@@ -26,7 +26,7 @@ lastZero trits p = nth 0 trits (rank 0 trits p)
 abbrev pub standAt : List ℕ → ℕ → Stand
 standAt trits p = record { ones = rank 1 trits p; twos = rank 2 trits p; zero = lastZero trits p }
 
--- s is where the unpacker stands before a place of an accepted image, past the first zero
+-- s is where the unpacker stands before a place of a proper image, past the first zero
 pub record Standing (image : List ℕ) (lay : Layout) (p : ℕ) (s : Stand) : Type 0 where
   pub laid : Laid image lay
   pub is : s ≡ standAt (tritsOf image) p

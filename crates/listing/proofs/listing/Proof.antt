@@ -10,7 +10,8 @@ use Rattle.format.specs.Image.{fromBytes}
 use Rattle.format.specs.Table.{readTable}
 use Rattle.format.specs.Listing.{tableText, listingText}
 use Rattle.format.proofs.ListingLaws.{listing-gives}
-use Rattle.listing.proofs.TableLaws.{words-many, front-is, text-table, text-room, text-outcome}
+use Rattle.format.proofs.ListingLaws.{listing-table}
+use Rattle.listing.proofs.TableLaws.{words-many, front-is, text-room, text-outcome}
 use Rattle.listing.proofs.listing.Statement.{statement}
 use Rattle.listing.proofs.listing.Tie as tie
 
@@ -25,7 +26,7 @@ is-text : (c : tie.After-read-words)
     → listingText (c .before .before .before .before .before .args .input .now) ≡ tableText (readTable (take (c .read-words .result) (c .read-words .last .1 .0)))
 is-text c =
     let w = whole (c .before .before) in
-    text-table _ (w .0) (w .1) ∙ ap (λ (t : List ℕ). tableText (readTable t)) (sym (table c))
+    listing-table _ (w .0) (w .1) ∙ ap (λ (t : List ℕ). tableText (readTable t)) (sym (table c))
 
 size : (c : tie.After-read-words) → c .read-words .result ≡ length (take (c .read-words .result) (c .read-words .last .1 .0))
 size c = c .read-words .ensures .0 ∙ sym (ap length (table c))

@@ -13,19 +13,19 @@ use Rattle.listing.proofs.lines.put_neighbours.Statement.{statement}
 use Rattle.listing.proofs.lines.put_neighbours.Tie as tie
 
 abbrev Inv-loop : tie.InvT-loop
-Inv-loop text₀ at mark image table lay kind i each count end₀ b₀ text end b =
+Inv-loop text₀ at sign image table lay kind i each count end₀ b₀ text end b =
     Left text₀ end₀ (neighbours image kind i) text end (partsFrom (neighbourAt image kind i) count b)
 
 abbrev μ-loop : tie.MeasureT-loop
-μ-loop text₀ at mark image table lay kind i each count end₀ b₀ text end b = count - b
+μ-loop text₀ at sign image table lay kind i each count end₀ b₀ text end b = count - b
 
 -- the neighbours are left
 marked : (c : tie.After-put-word Inv-loop μ-loop) → let x = c .before .before .before .before .before .before .before .args in
     let ns = neighbours (x .image .now) (x .kind) (x .i) in
-    Left (x .text .now) (x .at) (x .mark .now ++ ns) (c .put-word .last .0) (c .put-word .result) (ns ∷ [])
+    Left (x .text .now) (x .at) (x .sign .now ++ ns) (c .put-word .last .0) (c .put-word .result) (ns ∷ [])
 marked c =
     let x = c .before .before .before .before .before .before .before in
-    next (begin-two (x .args .mark .now) _ (x .pre .2)) (c .put-word .ensures)
+    next (begin-two (x .args .sign .now) _ (x .pre .2)) (c .put-word .ensures)
 
 -- the next neighbour is left
 turn : (c : tie.After-answer2 Inv-loop μ-loop) → let l = c .before .before in let s = l .before .before .before in
@@ -43,7 +43,7 @@ put-neighbours-spec =
     (λ c. search needs)
     (λ c κs. search needs)
     (λ c κs. search needs)
-    (λ c κs. let x = c .before .before .before .before .before .before in fits (begin-two (x .args .mark .now) _ (x .pre .2)))
+    (λ c κs. let x = c .before .before .before .before .before .before in fits (begin-two (x .args .sign .now) _ (x .pre .2)))
     (λ c.
     let s = c .before .before in
     let v = s .before .before in
