@@ -1,15 +1,17 @@
-# `make` runs the main job: it builds the library and the command, packs the drawn graph of the paper and lists it. `make test` is the gate.
-.PHONY: all library command figures test
+# `make` runs the main job: it builds the library and the programs, packs the drawn graph of the paper and lists it. `make test` is the gate.
+.PHONY: all library command list figures test
 
 CARGO = --offline --quiet --release --manifest-path rust/Cargo.toml --features pack,check,unpack,ask
-GLOUDS = rust/target/release/glouds
 
-all: command
+all: library list
 	cargo run $(CARGO) --bin drawn
-	$(GLOUDS) list crates/list/stdin
+	target/bin/list < crates/list/stdin
 
 library:
 	rt staticlib glouds
+
+list:
+	rt check list
 
 command: library
 	cargo build $(CARGO) --bin glouds

@@ -829,9 +829,17 @@ fn large(cases: &mut Cases) {
             cases.maybe(&changed, changed.len());
         }
     }
-    // A long batch at the line of the tally.
+    // Long batches at the line of the tally, and one that answers and refuses
+    // more than 16 bits count.
     let image = cases.graph(&make::random(30_000, 65_535, 100, rng));
     cases.lines(&image, 20_000);
+    cases.lines(&image, 65_537);
+    let [node, none] = [[3, 1, 0], [3, 0, 0]];
+    let many: Vec<Question> = (0..140_000)
+        .map(|i| if i % 2 == 0 { node } else { none })
+        .collect();
+    let tally = cases.tally();
+    assert_eq!(cases.ask(&image, &many, tally).refusal, 0);
 }
 
 /// Random bytes: alone, after a small count, and after proper sections.

@@ -17,7 +17,18 @@ check 0, cut by a byte 21
 6: 8* | 4
 7: | 4 5* 8*
 8: 7* | 5 6*
-asked 38 answered 38 refused 0
+done 2
+done 6
+done 9
+done 0
+done 7, shadow
+done 3
+done 4, real
+unknown kind 0
+first outside 0
+second outside 0
+refusals as named
+asked 48 answered 45 refused 3
 table 8 2 2 3 1 4 2 4 5 2 6 7 2 7 8 1 8 0 1 7 1 1
 ";
 

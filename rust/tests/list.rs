@@ -22,6 +22,7 @@ fn list(input: &[u8], piece: usize) -> Vec<u8> {
     let mut child = Command::new(&path)
         .stdin(Stdio::piped())
         .stdout(Stdio::piped())
+        .stderr(Stdio::piped())
         .spawn()
         .unwrap_or_else(|error| panic!("{}: {error}; `rt check list` makes it", path.display()));
     let mut stdin = child.stdin.take().unwrap();
@@ -34,6 +35,7 @@ fn list(input: &[u8], piece: usize) -> Vec<u8> {
     drop(stdin);
     let output = child.wait_with_output().unwrap();
     assert!(output.status.success());
+    assert!(output.stderr.is_empty());
     output.stdout
 }
 
@@ -57,7 +59,7 @@ fn compare(input: &[u8], piece: usize) -> String {
 fn tables(rng: &mut Xorshift) -> Vec<Vec<u16>> {
     let mut tables = vec![vec![0, 0]];
     for round in 0..120 {
-        let n = 1 + rng.below(if round < 100 { 40 } else { 900 });
+        let n = 1 + rng.below(if round < 100 { 40 } else { 790 });
         let m = n + rng.below(2 * n);
         let c = 1 + rng.below(n);
         tables.push(make::random(n, m, c, rng).table());

@@ -1,5 +1,5 @@
 -- `text::put_digits` meets its contract: the measure is the number of digits that it may still put. Assumes nothing.
-use Prim.Native.Nat.{ℕ}
+use Prim.Native.Nat.{ℕ, _<_}
 use native.Mathlib.Omega.{arith}
 use borrow.Author.Needs.{needs}
 use borrow.Fn.Kinds.{In}
