@@ -154,6 +154,22 @@ module _ {xs : List ℕ} {q x : ℕ} (T : Tryte xs q x) where
         go (yes h) = absurd (omega (arith, v, P, padded t r (omega (arith, P)) (inside v) h))
         go (no h) = omega arith
 
+-- ---- counting by trytes up to `end`, and reading on
+
+pub record Capped (t : ℕ) (xs : List ℕ) (end q n : ℕ) : Type 0 where
+  pub until : q ≤ end → n ≡ rank t xs (5 * q)
+  pub past : end ≤ q → n ≡ rank t xs (5 * end)
+
+pub capped : {t : ℕ} {xs : List ℕ} {end q n : ℕ} → q ≤ end → n ≡ rank t xs (5 * q) → Capped t xs end q n
+capped {t} {xs} h e = record { until = λ l. e; past = λ l. e ∙ ap (λ (k : ℕ). rank t xs (5 * k)) (omega arith) }
+
+module _ {t : ℕ} {xs : List ℕ} {end q n : ℕ} (v : Capped t xs end q n) where
+  pub capped-more : {x k : ℕ} → Tryte xs q x → k ≡ tryteCount t x 5 → 5 * end ≤ length xs → q + 1 ≤ end → Capped t xs end (q + 1) (n + k)
+  capped-more T e l h = capped h (omega (arith, v .until (omega arith), rank-next T t (omega arith)))
+
+  pub capped-stay : end ≤ q → Capped t xs end (q + 1) n
+  capped-stay h = record { until = λ l. absurd (omega arith); past = λ l. v .past h }
+
 -- ---- the search by trytes: of those before q, the last with fewer than j before it
 
 pub record Scanning (t : ℕ) (xs : List ℕ) (j e last at before n q : ℕ) : Type 0 where

@@ -557,7 +557,19 @@ fn rank_block(image: &[u8], lay: Layout, t: usize, g: usize) -> usize
     six + seven + eight
 }
 
-// The trytes from `from` up to `end` on top of the zeros and ones before `from`: at most four.
+// The last of the five trytes from `first` on, or the last that there is.
+fn last_tryte(trits: usize, first: usize) -> usize
+    requires { ⌜ (5 * first < trits) × (trits ≤ 125536) ⌝ }
+    ensures { λ r. ⌜ (first ≤ r) × (r ≤ first + 4) × (5 * r < trits) × (r < first + 4 → trits ≤ 5 * (r + 1)) ⌝ }
+{
+    let last = (trits - 1) / 5;
+    if first + 4 < last {
+        return first + 4;
+    }
+    last
+}
+
+// The trytes from `from` up to `end` on top of the zeros and ones before `from`: at most four. All five of the block are read, so that no branch is to be guessed.
 fn rank_trytes(
     image: &[u8],
     table: &[u8; 243],
@@ -569,14 +581,23 @@ fn rank_trytes(
     requires { ⌜ (Laid (now image) lay) × (now table ≡ tryteTable) × (from ≤ end) × (end ≤ from + 4) × (5 * end ≤ length (tritsOf (now image))) × (before ≡ ranksOf (tritsOf (now image)) (5 * from)) ⌝ }
     ensures { λ r. ⌜ r ≡ ranksOf (tritsOf (now (image .entry))) (5 * end) ⌝ }
 {
+    let trits = lay.trits;
+    if trits <= 5 * from {
+        return before;
+    }
+    let last = last_tryte(trits, from);
     let mut zeros = before.zeros;
     let mut ones = before.ones;
     let mut q = from;
-    while q < end {
+    while q <= last {
         let x = tryte(image, lay, q);
-        zeros += tryte_count(table, x, 0);
-        ones += tryte_count(table, x, 1);
+        let more_zeros = tryte_count(table, x, 0);
+        let more_ones = tryte_count(table, x, 1);
         q += 1;
+        if q <= end {
+            zeros += more_zeros;
+            ones += more_ones;
+        }
     }
     Ranks { zeros, ones }
 }
@@ -630,7 +651,8 @@ pub fn trit_at(image: &[u8], lay: Layout, p: usize) -> usize
 {
     let q = p / 5;
     let x = tryte(image, lay, q);
-    digit(x, p % 5)
+    let w = power(p % 5);
+    x / w % 3
 }
 
 // ---- select
@@ -648,18 +670,6 @@ fn total(lay: Layout, t: usize) -> usize
         return nodes;
     }
     lay.shadows
-}
-
-// The last of the five trytes from `first` on, or the last that there is.
-fn last_tryte(trits: usize, first: usize) -> usize
-    requires { ⌜ (5 * first < trits) × (trits ≤ 125536) ⌝ }
-    ensures { λ r. ⌜ (first ≤ r) × (r ≤ first + 4) × (5 * r < trits) × (r < first + 4 → trits ≤ 5 * (r + 1)) ⌝ }
-{
-    let last = (trits - 1) / 5;
-    if first + 4 < last {
-        return first + 4;
-    }
-    last
 }
 
 // The tryte in which the `t` number `j` stands, from its block: four are counted, found or not, so that no branch is to be guessed.

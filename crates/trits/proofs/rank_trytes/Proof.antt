@@ -1,33 +1,68 @@
--- `trits::rank_trytes` meets its contract: the loop keeps the zeros and ones before tryte q. Assumes nothing.
-use Prim.Native.Nat.{_-_, _*_, _≤_}
+-- `trits::rank_trytes` meets its contract: the loop keeps the zeros and ones before tryte q, or before `end` once that is passed. Assumes nothing.
+use Prim.Native.Nat.{ℕ, _+_, _-_, _*_, _≤_, _<_}
 use native.Mathlib.Omega.{arith}
-use mathlib.Core.Path.{_≡_, ap}
+use native.Mathlib.Decide.{decLe}
+use mathlib.Core.Path.{_≡_, ap, _∙_}
 use lib.Dec.{lit<}
-use Rattle.format.specs.Trits.{rank}
 use Rattle.format.specs.Proper.{tritsOf}
+use Rattle.trits.specs.Search.{ranksOf}
 use Rattle.trits.proofs.Levels.{few}
 use Rattle.trits.proofs.Searching.{rank-few}
-use Rattle.trits.proofs.Trytes.{rank-next}
+use Rattle.trits.proofs.Trytes.{both, trits-is, Capped, capped, capped-more, capped-stay}
 use Rattle.trits.proofs.rank_trytes.Statement.{statement}
 use Rattle.trits.proofs.rank_trytes.Tie as tie
 
 abbrev Inv-loop : tie.InvT-loop
-Inv-loop image table lay from end zeros₀ ones₀ q₀ zeros ones q = (q ≤ end) × (zeros ≡ rank 0 (tritsOf image) (5 * q)) × (ones ≡ rank 1 (tritsOf image) (5 * q))
+Inv-loop image table lay from end trits last zeros₀ ones₀ q₀ zeros ones q = (q ≤ last + 1) × Capped 0 (tritsOf image) end q zeros × Capped 1 (tritsOf image) end q ones
 
 abbrev μ-loop : tie.MeasureT-loop
-μ-loop image table lay from end zeros₀ ones₀ q₀ zeros ones q = end - q
+μ-loop image table lay from end trits last zeros₀ ones₀ q₀ zeros ones q = last + 1 - q
+
+nothing : tie.Need-returns Inv-loop μ-loop
+nothing c =
+    let x = c .before .before in
+    let e : x .args .from ≡ x .args .end = omega (arith, c .if1 .taken, trits-is (x .pre .0)) in
+    x .pre .5 ∙ ap (λ k. ranksOf (tritsOf (x .args .image .now)) (5 * k)) e
+
+loop-holds : tie.Need-loop-holds Inv-loop μ-loop
+loop-holds c =
+    let x = c .before .before .before in
+    let e = x .pre .5 in
+    (omega (arith, c .last-tryte .ensures), capped (x .pre .2) (ap (λ r. r .zeros) e), capped (x .pre .2) (ap (λ r. r .ones) e))
 
 loop-again : tie.Need-loop-again Inv-loop μ-loop
 loop-again c =
-    let x = c .before .before .before .before .before .before in
-    let T = c .before .before .tryte .ensures in
-    (omega arith, omega (arith, rank-next T 0 (omega (arith, x .pre))), omega (arith, rank-next T 1 (omega (arith, x .pre))))
+    let b = c .before in
+    let t = b .before .before in
+    let l = t .before .before in
+    let x = l .before .before .before .before in (
+      omega arith,
+      capped-more (l .loop .inv .1) (t .tryte .ensures) (b .before .tryte-count .ensures .0) (x .pre .4) (c .if2 .taken),
+      capped-more (l .loop .inv .2) (t .tryte .ensures) (b .tryte-count2 .ensures .0) (x .pre .4) (c .if2 .taken),
+    )
 
-returns : tie.Need-returns Inv-loop μ-loop
+loop-again-2 : tie.Need-loop-again-2 Inv-loop μ-loop
+loop-again-2 c =
+    let l = c .before .before .before .before .before in
+    let h : l .before .before .before .before .args .end ≤ l .loop .q = omega (arith, c .if2 .left) in
+    (omega arith, capped-stay (l .loop .inv .1) h, capped-stay (l .loop .inv .2) h)
+
+-- past the last tryte of the block, or of all, `end` is passed
+ends : (from last end L q : ℕ) → (last < from + 4 → L ≤ 5 * (last + 1)) → end ≤ from + 4 → 5 * end ≤ L → last < q → end ≤ q
+ends from last end L q short h l past = go (decLe (from + 4) last)
+  where
+    go : Dec (from + 4 ≤ last) → end ≤ q
+    go (yes y) = omega arith
+    go (no y) = omega (arith, short (omega arith))
+
+returns : tie.Need-returns-2 Inv-loop μ-loop
 returns c =
-    let l = c .before .loop in
-    let e : c .before .before .before .args .end ≡ l .q = omega arith in
-    rw (e, l .inv .1, l .inv .2)
+    let l = c .before in
+    let s = l .before in
+    let x = s .before .before .before in
+    let h : x .args .end ≤ l .loop .q =
+    ends (x .args .from) (s .last-tryte .result) _ (x .args .lay .trits) _ (s .last-tryte .ensures .3) (x .pre .3) (omega (arith, x .pre .4, trits-is (x .pre .0))) (omega (arith, c .loop-test .left)) in
+    both (l .loop .inv .1 .past h) (l .loop .inv .2 .past h)
 
 pub rank-trytes-spec : {M : Type 1} → statement M
 rank-trytes-spec =
@@ -35,13 +70,18 @@ rank-trytes-spec =
     (tie.spec
     Inv-loop
     μ-loop
-    (λ c. let x = c .before in (x .pre .2, ap (λ r. r .zeros) (x .pre .5), ap (λ r. r .ones) (x .pre .5)))
-    (λ c κs. (c .before .before .before .pre .0, omega arith))
-    (λ c κs. (c .before .before .before .before .pre .1, c .tryte .ensures .low, lit< tt))
-    (λ c. let x = c .before .before .before .before .before in omega (arith, rank-few (x .pre .0 .whole) 0 (5 * c .before .before .before .loop .q)))
-    (λ c κs. (c .before .before .before .before .before .pre .1, c .before .tryte .ensures .low, lit< tt))
-    (λ c. let x = c .before .before .before .before .before .before in omega (arith, rank-few (x .pre .0 .whole) 1 (5 * c .before .before .before .before .loop .q)))
-    (λ c. omega (arith, few (c .before .before .before .before .before .before .pre .0 .whole)))
+    (λ c. let x = c .before in omega (arith, x .pre .2, x .pre .4, few (x .pre .0 .whole)))
+    nothing
+    (λ c κs. let x = c .before .before in omega (arith, c .if1 .left, few (x .pre .0 .whole), trits-is (x .pre .0)))
+    loop-holds
+    (λ c κs. let s = c .before .before in let x = s .before .before .before in (x .pre .0, omega (arith, c .loop-test .taken, s .last-tryte .ensures, trits-is (x .pre .0))))
+    (λ c κs. (c .before .before .before .before .before .before .pre .1, c .tryte .ensures .low, lit< tt))
+    (λ c κs. (c .before .before .before .before .before .before .before .pre .1, c .before .tryte .ensures .low, lit< tt))
+    (λ c. let s = c .before .before .before .before .before in omega (arith, s .last-tryte .ensures, few (s .before .before .before .pre .0 .whole), trits-is (s .before .before .before .pre .0), c .before .before .before .loop-test .taken))
+    (λ c. let l = c .before .before .before .before .before in let x = l .before .before .before .before in omega (arith, c .if2 .taken, l .loop .inv .1 .until (omega arith), rank-few (x .pre .0 .whole) 0 (5 * l .loop .q), c .before .before .tryte-count .ensures))
+    (λ c. let l = c .before .before .before .before .before in let x = l .before .before .before .before in omega (arith, c .if2 .taken, l .loop .inv .2 .until (omega arith), rank-few (x .pre .0 .whole) 1 (5 * l .loop .q), c .before .tryte-count2 .ensures))
     (λ c. omega arith)
     loop-again
+    (λ c. omega arith)
+    loop-again-2
     returns)

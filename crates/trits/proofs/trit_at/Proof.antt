@@ -1,7 +1,7 @@
 -- `trits::trit_at` meets its contract: tryte p / 5, trit p % 5. Assumes nothing.
-use Prim.Native.Nat.{_+_, _*_, _/_, _%_}
+use Prim.Native.Nat.{ℕ, _+_, _*_, _/_, _%_}
 use native.Mathlib.Omega.{arith}
-use mathlib.Core.Path.{_≡_, sym, _∙_}
+use mathlib.Core.Path.{_≡_, sym, ap, _∙_}
 use borrow.Author.Needs.{needs}
 use Rattle.trits.specs.Layout.{Laid}
 use Rattle.trits.proofs.Trytes.{digit-here}
@@ -14,9 +14,10 @@ laid c = accepted (c .shared-slice-known .given) (c .before .pre .0) (c .before 
 
 returns : tie.Need-returns
 returns c =
-    let p = c .before .before .before .args .p in
+    let t = c .before in
+    let p = t .before .before .args .p in
     let e : 5 * (p / 5) + p % 5 ≡ p = omega arith in
-    c .digit .ensures ∙ rw e at (sym (digit-here (c .before .tryte .ensures) (p % 5) (omega arith) (omega arith)))
+    ap (λ (w : ℕ). t .tryte .result / w % 3) (c .power .ensures .0) ∙ rw e at (sym (digit-here (t .tryte .ensures) (p % 5) (omega arith) (omega arith)))
 
 pub trit-at-spec : {M : Type 1} → statement M
-trit-at-spec = tie.close (tie.spec (λ c κs. (laid c, omega arith)) (λ c κs. search needs) returns)
+trit-at-spec = tie.close (tie.spec (λ c κs. (laid c, omega arith)) (λ c κs. search needs) (λ c. search needs) returns)
