@@ -175,13 +175,13 @@ fn from6(bs: &[u8], marks: &[u8], table: &[u8; 243], rest: &[u8], lay: trits::La
 }
 
 // Section 5's front has fault `f`, and section 4's contents (25) come before it.
-fn before5(hs: &[u8], marks: &[u8], firsts: &[u8], n: usize, f: Refusal) -> Checked
-    requires { ⌜ ((trits : List ℕ) × (H : List ℕ) × Shadowed trits H (now hs) × Marked trits H (now marks) × (nodeCount trits ≡ n)
+fn before5(hs: &[u8], firsts: &[u8], n: usize, f: Refusal) -> Checked
+    requires { ⌜ ((trits : List ℕ) × (H : List ℕ) × Shadowed trits H (now hs) × (nodeCount trits ≡ n)
         × (length (now firsts) ≡ 4 * (length (markedNodes trits H) + 1))) ⌝ }
-    ensures { λ r. ⌜ ((trits H : List ℕ) → Shadowed trits H (now (hs .entry)) → Marked trits H (now (marks .entry)) → nodeCount trits ≡ n
+    ensures { λ r. ⌜ ((trits H : List ℕ) → Shadowed trits H (now (hs .entry)) → nodeCount trits ≡ n
         → checkedNumber r ≡ (fault 25 (same (now (firsts .entry)) (bytes 4 (starts trits H))) then refusalNumber f)) ⌝ }
 {
-    let right = crate::started::starts_right(hs, marks, firsts, n);
+    let right = crate::started::starts_right(hs, firsts, n);
     let first = if right { f } else { Refusal::IndexWrong };
     Checked::Refused(first)
 }
@@ -203,7 +203,7 @@ fn from5(
     let size = 4 * k;
     if let Checked::Refused(f) = opened(rest, Refusal::IndexWrong, k, size) {
         let n = lay.nodes;
-        return before5(hs, marks, firsts, n, f);
+        return before5(hs, firsts, n, f);
     }
     let table = trits::tryte_table();
     let l = lay.trits;

@@ -8,5 +8,5 @@ before5-spec =
     tie.close
     (tie.spec
     (λ c κs. search needs)
-    (λ c trits H s k n. rw (← c .before .starts-right .ensures trits H s k n, c .if1 .taken))
-    (λ c trits H s k n. rw (← c .before .starts-right .ensures trits H s k n, c .if1 .left)))
+    (λ c trits H s n. rw (← c .before .starts-right .ensures trits H s n, c .if1 .taken))
+    (λ c trits H s n. rw (← c .before .starts-right .ensures trits H s n, c .if1 .left)))

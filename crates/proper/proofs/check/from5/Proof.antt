@@ -25,7 +25,7 @@ before5-requires c κs =
     let p = c .before .before .before .before .before .before .before .before .before .pre in
     let t = p .1 in
     let C = counted (t .2) in
-    (t .0, t .1, t .2 .known .shadowed, t .2 .marked, sym (counted-nodes C), p .0 ∙ ap (λ (k : ℕ). 4 * (k + 1)) (sym (counted-marked C)))
+    (t .0, t .1, t .2 .known .shadowed, sym (counted-nodes C), p .0 ∙ ap (λ (k : ℕ). 4 * (k + 1)) (sym (counted-marked C)))
 
 returns : tie.Need-returns
 unfolding given
@@ -34,7 +34,7 @@ returns c =
     let x = opened .before .before .before .before .before .before .args in
     let f = c .before .before .f .given .0 .0 in
     λ trits H T.
-    c .before5 .ensures trits H (T .known .shadowed) (T .marked) (sym (counted-nodes (counted T)))
+    c .before5 .ensures trits H (T .known .shadowed) (sym (counted-nodes (counted T)))
     ∙ ap (λ (k : ℕ). fault 25 (same (x .firsts .now) (bytes 4 (starts trits H))) then k) (first-refused (section5 trits H) (givenFrom 3 trits H) (x .rest .now) f
     (given-refused (front5 trits H (T .marked .proper) (counted-shadows (counted T))) (x .rest .now) f (sym (ap checkedNumber (c .before .before .f .given .1)) ∙ opened .opened .ensures)))
 
