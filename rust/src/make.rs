@@ -97,6 +97,13 @@ pub fn used_in_turn(n: usize, m: usize) -> Graph {
     graph
 }
 
+/// n roots, of which the last uses m at random. L = 2n + m + 1.
+pub fn used_at_random(n: usize, m: usize, rng: &mut Xorshift) -> Graph {
+    let mut graph = all_roots(n);
+    graph.operands[n - 1] = (0..m).map(|_| 1 + rng.below(n)).collect();
+    graph
+}
+
 /// A random graph of n nodes and m edges, with c roots that reach them all, in
 /// a random numbering: m must be at least n - c. L = n + m + c + 1.
 pub fn random(n: usize, m: usize, c: usize, rng: &mut Xorshift) -> Graph {

@@ -730,11 +730,29 @@ fn middle(cases: &mut Cases) {
     }
 }
 
+/// Images on each side of 2,048 nodes, where section 5 is checked another way.
+fn many_nodes(cases: &mut Cases) {
+    let rng = &mut Xorshift::new(53);
+    for n in [2_048, 2_049] {
+        for graph in [
+            make::random(n, n + 1_000, 3, rng),
+            make::used_at_random(n, 1_000, rng),
+            make::used_in_turn(n, n + 500),
+            make::used_by_all(n, 1_500),
+        ] {
+            cases.damages(&image_of(&graph), 60);
+        }
+    }
+}
+
 /// The largest images.
 fn large(cases: &mut Cases) {
     let rng = &mut Xorshift::new(47);
     let mut graphs = make::largest(rng);
     graphs.push(make::used_by_all(30_000, 5_724)); // L = 65,725
+    // From L = 81,880 on the checker's samples lie further apart.
+    graphs.push(make::used_at_random(8_172, 65_534, rng));
+    graphs.push(make::used_at_random(8_172, 65_535, rng));
     let mut images: Vec<Made> = graphs.iter().map(image_of).collect();
     images.dedup_by(|one, other| one.bytes == other.bytes);
     for image in images {
@@ -891,6 +909,7 @@ fn beside_the_plain_checker() {
     every_trits(&mut cases);
     small(&mut cases);
     middle(&mut cases);
+    many_nodes(&mut cases);
     large(&mut cases);
     limits(&mut cases);
     random_bytes(&mut cases);

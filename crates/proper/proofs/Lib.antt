@@ -11,5 +11,6 @@ pub mod PairLaws
 pub mod TwoLaws
 pub mod KeyLaws
 pub mod IndexLaws
+pub mod OrderLaws
 pub mod PassedLaws
 pub mod OneAnswer

@@ -1,23 +1,26 @@
--- The twos before a place, counted tryte by tryte from the last multiple of 65. Assumes nothing.
-use Prim.Native.Nat.{ℕ, zero, suc, _+_, _*_, _/_, _%_, _^_, _≤_, _<_}
-use native.Mathlib.Nat.{le-of-suc-le-suc, not-suc-le-zero, pow-zero, pow-suc, one-le-pow, mod-one, mod-lt}
+-- The twos before a place, counted tryte by tryte from the nearest sample. Assumes nothing.
+use Prim.Native.Nat.{ℕ, zero, suc, _+_, _-_, _*_, _/_, _%_, _^_, _≤_, _<_}
+use native.Mathlib.Nat.{le-of-suc-le-suc, not-suc-le-zero, mul-zero, mul-one, mul-comm, mul-add, mul-le-mul-left, lt-of-mul-lt-mul-left, mul-div-le, lt-mul-div-succ, div-lt-iff-lt-mul, le-div-iff-mul-le, pow-zero, pow-suc, one-le-pow, mod-one, mod-lt}
 use native.Mathlib.Decide.{ℕ-discrete}
 use native.Mathlib.Omega.{arith}
 use mathlib.Core.Path.{_≡_, refl, sym, ap, ap₂, _∙_}
+use mathlib.Core.Bool.{Bool, true, false}
 use mathlib.Core.List.{List}
 use lib.Arith.{mod-mul, digits-div, digits-mod}
-use lib.Dec.{eqb, lit<}
+use lib.Dec.{eqb, ltb, lit<}
 use lib.ListN.{length, getD, set, take}
 use lib.Seq.{getD-set-same, getD-set-other}
-use Rattle.format.specs.Lists.{bit, countIn, lowDigits, spread}
+use borrow.Author.Tests.{ltb-true, ltb-false}
+use Rattle.format.specs.Lists.{bit, up, countIn, lowDigits, spread}
 use Rattle.format.specs.Trits.{rank, trytes, tryteCount}
 use Rattle.format.proofs.Laws.{rank-zero, rank-count, count-le}
 use Rattle.format.proofs.Digits.{lt-up, spread-gather-at}
 use Rattle.format.proofs.Sizes.{length-trytes}
 use Rattle.format.proofs.ImageReads.{below-gather}
 use Rattle.trits.specs.Search.{Tryte}
+use Rattle.trits.proofs.Trytes.{rank-next}
 use Rattle.samples.specs.Lent.{TritsIn}
-use Rattle.proper.specs.Places.{Filled}
+use Rattle.proper.specs.Places.{Step, spot, TwosAt}
 
 module _ {trits bs : List ℕ} (T : TritsIn trits bs) where
   pub trit-in : (p : ℕ) → getD (spread 3 5 bs) p 0 ≡ getD trits p 0
@@ -33,6 +36,9 @@ module _ {trits bs : List ℕ} (T : TritsIn trits bs) where
       let is : getD bs q 0 ≡ getD (trytes trits) q 0 = ap (λ (b : List ℕ). getD b q 0) (T .trytes-are) in
       let held : q < length (trytes trits) = rw (← T .trytes-are) (tryte-inside q l) in
       record { threes = T .threes; is = e ∙ is; low = rw (e, is) (below-gather 3 5 (lit< tt) (lit< tt) trits (T .threes) q held) }
+
+  pub trytes-many : length bs ≡ up (length trits) 5
+  trytes-many = ap length (T .trytes-are) ∙ length-trytes trits
 
   pub few-twos : (p : ℕ) → rank 2 trits p ≤ 125536
   few-twos p = omega (arith, rank-count 2 trits p, count-le 2 trits, T .few)
@@ -57,31 +63,82 @@ pub front-twos : (x r : ℕ) → r ≤ 5 → tryteCount 2 (x % 3 ^ r) 5 ≡ tryt
 unfolding tryteCount
 front-twos x r h = cut-twos 5 x r h
 
--- ---- the twos before every multiple of 65
+-- ---- the samples
 
--- those up to multiple i are put, and n stand before it
-pub record Filling (trits old : List ℕ) (i n : ℕ) (twos : List ℕ) : Type 0 where
-  pub reached : n ≡ rank 2 trits (65 * i)
-  pub counted : (j : ℕ) → j ≤ i → getD twos j 0 ≡ rank 2 trits (65 * j)
-  pub others : (j : ℕ) → i < j → getD twos j 0 ≡ getD old j 0
+-- the last one is among the 2,048
+module _ {l step : ℕ} (S : Step l step) where
+  pub last-low : (l / 5 + 6) / step < 2048
+  last-low = div-lt-iff-lt-mul {k = step} {x = l / 5 + 6} {y = 2048} (S .some) .1 (S .enough)
 
-pub filling-none : (trits old : List ℕ) → 0 < length old → Filling trits (set old 0 0) 0 0 (set old 0 0)
-filling-none trits old l = record {
-  reached = sym (rank-zero 2 trits);
-  counted = λ j h. let e : j ≡ 0 = omega arith in rw (e, getD-set-same old 0 0 0 l) (sym (rank-zero 2 trits));
-  others = λ j h. refl;
+  pub last-spot : (i : ℕ) → i ≤ (l / 5 + 6) / step → step * i ≤ l / 5 + 6
+  last-spot i h = omega (arith, mul-le-mul-left step h, mul-div-le (l / 5 + 6) step)
+
+-- those up to sample i are put, and n stand before it
+pub record Filling (trits : List ℕ) (step i n : ℕ) (twos : List ℕ) : Type 0 where
+  pub reached : n ≡ rank 2 trits (5 * spot trits step i)
+  pub counted : (j : ℕ) → j ≤ i → getD twos j 0 ≡ rank 2 trits (5 * spot trits step j)
+
+none : (trits : List ℕ) (step : ℕ) → rank 2 trits (5 * spot trits step 0) ≡ 0
+none trits step = let e : 5 * spot trits step 0 ≡ 0 = omega (arith, mul-zero step) in rw e (rank-zero 2 trits)
+
+pub filling-none : (trits old : List ℕ) (step : ℕ) → 0 < length old → Filling trits step 0 0 (set old 0 0)
+filling-none trits old step l = record {
+  reached = sym (none trits step);
+  counted = λ j h. let e : j ≡ 0 = omega arith in rw (e, getD-set-same old 0 0 0 l) (sym (none trits step));
 }
 
-module _ {trits old : List ℕ} {i n : ℕ} {twos : List ℕ} (F : Filling trits old i n twos) where
-  pub filling-next : {m : ℕ} → i + 1 < length twos → m ≡ rank 2 trits (65 * (i + 1)) → Filling trits old (i + 1) m (set twos (i + 1) m)
+module _ {trits : List ℕ} {step i n : ℕ} {twos : List ℕ} (F : Filling trits step i n twos) where
+  pub filling-next : {m : ℕ} → i + 1 < length twos → m ≡ rank 2 trits (5 * spot trits step (i + 1)) → Filling trits step (i + 1) m (set twos (i + 1) m)
   filling-next {m} l e = record {
     reached = e;
     counted = λ j h. elim (ℕ-discrete j (i + 1)) [
       | yes y ↦ rw (y, getD-set-same twos (i + 1) m 0 l) e
       | no y ↦ getD-set-other twos (i + 1) j m 0 y ∙ F .counted j (omega (arith, y))
     ];
-    others = λ j h. getD-set-other twos (i + 1) j m 0 (omega arith) ∙ F .others j (omega arith);
   }
 
-pub filled : {trits : List ℕ} (old : List ℕ) {i n L : ℕ} {twos : List ℕ} → Filling trits (set old 0 0) i n twos → length trits ≡ L → i ≡ L / 65 → Filled trits old twos
-filled old F n e = record { counted = λ j h. F .counted j (omega arith); others = λ j h. F .others j (omega arith) ∙ getD-set-other old 0 j 0 0 (omega arith) }
+  pub filled : 0 < step → (length trits / 5 + 6) / step ≤ i → TwosAt trits step twos
+  filled s l j h = F .counted j (omega (arith, le-div-iff-mul-le {k = step} {x = j} {y = length trits / 5 + 6} s .1 (omega (arith, mul-comm j step))))
+
+-- ---- the nearest sample to tryte q
+
+pub record Near (l step half q i : ℕ) : Type 0 where
+  pub low : i < 2048
+  pub early : step * i ≤ l / 5 + 6
+  pub ahead : step * i ≤ q + half
+  pub behind : q ≤ step * i + half
+
+pub near : {l step half q : ℕ} → Step l step → half ≤ 6 → step ≤ 2 * half + 1 → 5 * q < l → Near l step half q ((q + half) / step)
+near {l} {step} {half} {q} S h w b =
+    let i : ℕ = (q + half) / step in
+    let a : step * i ≤ q + half = mul-div-le (q + half) step in
+    let e : step * i ≤ l / 5 + 6 = omega arith in
+    record {
+      low = lt-of-mul-lt-mul-left step (omega (arith, S .enough, mul-comm step 2048));
+      early = e;
+      ahead = a;
+      behind = omega (arith, lt-mul-div-succ (q + half) {b = step} (S .some), mul-add step i 1, mul-one step);
+    }
+
+-- ---- the twos between two trytes
+
+-- the smaller of two numbers, as `smaller` has it
+abbrev least : ℕ → ℕ → ℕ
+least a b = a - (a - b)
+
+pub counts-small : (t : Bool) {c : ℕ} → c ≤ 5 → bit t * c ≤ 5
+counts-small true h = omega arith
+counts-small false h = omega arith
+
+-- one turn: a tryte before the end counts
+pub between-next : {trits : List ℕ} (from end d n : ℕ) {x c : ℕ} (t : Bool) → ltb (from + d) end ≡ t → (from + d < end → Tryte trits (from + d) x) → 5 * end ≤ length trits → c ≡ tryteCount 2 x 5
+    → rank 2 trits (5 * from) + n ≡ rank 2 trits (5 * least (from + d) end) → rank 2 trits (5 * from) + (n + bit t * c) ≡ rank 2 trits (5 * least (from + (d + 1)) end)
+between-next from end d n true e T l ec h =
+    let before : from + d < end = ltb-true (from + d) end e in
+    let a : least (from + d) end ≡ from + d = omega arith in
+    let b : least (from + (d + 1)) end ≡ from + d + 1 = omega arith in
+    rw b (omega (arith, rw a at h, ec, rank-next (T before) 2 (omega arith)))
+between-next from end d n false e T l ec h =
+    let past : end ≤ from + d = ltb-false (from + d) end e in
+    let a : least (from + (d + 1)) end ≡ least (from + d) end = omega arith in
+    rw a (omega (arith, h))

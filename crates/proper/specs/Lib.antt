@@ -7,3 +7,4 @@ pub mod Marking
 pub mod Starting
 pub mod Samples
 pub mod Places
+pub mod Ordering

@@ -1,33 +1,32 @@
 -- What the checker of sections 4 and 5 counts and compares: the twos before a place, the key by which the places rise, and a number. Assumes nothing.
-use Prim.Native.Nat.{ℕ, _+_, _*_, _/_, _≤_, _<_}
+use Prim.Native.Nat.{ℕ, _+_, _-_, _*_, _/_, _≤_, _<_}
 use mathlib.Core.Path.{_≡_}
 use mathlib.Core.Bool.{Bool, _&&_}
 use mathlib.Core.List.{List}
 use lib.Dec.{eqb, leb}
 use lib.ListN.{length, getD}
-use Rattle.format.specs.Trits.{rank}
+use Rattle.format.specs.Trits.{rank, tryteCount}
 use Rattle.format.specs.Image.{shadowAt, read}
-use Rattle.proper.specs.declared.placed.Seat.{Seat}
 use Rattle.proper.specs.declared.placed.Entry.{Entry}
 use Rattle.proper.specs.declared.placed.Entry.the-variants.{Wrong, Key}
 
--- the twos before every multiple of 65
-abbrev pub TwosAt : List ℕ → List ℕ → Type 0
-TwosAt trits twos = (i : ℕ) → 65 * i ≤ length trits → getD twos i 0 ≡ rank 2 trits (65 * i)
+-- how many twos each tryte has
+abbrev pub TwoTable : List ℕ → Type 0
+TwoTable counts = (x : ℕ) → x < 243 → getD counts x 0 ≡ tryteCount 2 x 5
 
--- these are put over what stood there before, and nothing else
-pub record Filled (trits old twos : List ℕ) : Type 0 where
-  pub counted : TwosAt trits twos
-  pub others : (i : ℕ) → length trits < 65 * i → getD twos i 0 ≡ getD old i 0
+-- with so many trytes from sample to sample, 8 or 13, 2,048 samples are enough for l trits and 6 trytes more
+pub record Step (l step : ℕ) : Type 0 where
+  pub some : 0 < step
+  pub other : (step ≡ 8 → ⊥) → step ≡ 13
+  pub enough : l / 5 + 6 < 2048 * step
 
--- as many twos stand before a seat's tryte as it says
-abbrev pub Seated : List ℕ → Seat → Type 0
-Seated trits s = s .before ≡ rank 2 trits (5 * s .tryte)
+-- tryte number step * i, or the end of the whole trytes if that comes first
+abbrev pub spot : List ℕ → ℕ → ℕ → ℕ
+spot trits step i = step * i - (step * i - length trits / 5)
 
--- and that is the tryte of place p
-pub record SeatOf (trits : List ℕ) (p : ℕ) (s : Seat) : Type 0 where
-  pub of : s .tryte ≡ p / 5
-  pub seated : Seated trits s
+-- the twos before each of these trytes
+abbrev pub TwosAt : List ℕ → ℕ → List ℕ → Type 0
+TwosAt trits step twos = (i : ℕ) → step * i ≤ length trits / 5 + 6 → getD twos i 0 ≡ rank 2 trits (5 * spot trits step i)
 
 -- a place's key: its shadow, then itself
 unfoldable pub key : List ℕ → List ℕ → ℕ → ℕ
@@ -42,7 +41,7 @@ pub record Rises (trits H : List ℕ) (low p : ℕ) : Type 0 where
 -- what an entry p is answered by, where the key before it is below low
 abbrev pub Answered : List ℕ → List ℕ → ℕ → ℕ → Entry → Type 0
 Answered trits H low p Wrong = Rises trits H low p → ⊥
-Answered trits H low p (Key k s) = Rises trits H low p × (k ≡ key trits H p) × SeatOf trits p s
+Answered trits H low p (Key k) = Rises trits H low p × (k ≡ key trits H p)
 
 -- a part of 4 bytes a number has number j, and that is x
 abbrev pub numberIs : List ℕ → ℕ → ℕ → Bool

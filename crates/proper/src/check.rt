@@ -207,7 +207,8 @@ fn from5(
     }
     let table = trits::tryte_table();
     let l = lay.trits;
-    let right = crate::placed::index_right(bs, hs, &table, firsts, contents(rest, size), l);
+    let n = lay.nodes;
+    let right = crate::ordered::both_right(bs, hs, &table, firsts, contents(rest, size), l, n);
     if right {
         return from6(bs, marks, &table, after(rest, size), lay);
     }

@@ -2,6 +2,7 @@
 pub mod check;
 pub mod first;
 pub mod marked;
+pub mod ordered;
 pub mod placed;
 pub mod sampled;
 pub mod second;

@@ -1,5 +1,6 @@
 // Section 5, and section 4 beside it: the places of the twos by node, and where each marked node's begin. The keys of the places have to rise, and
 // as many rising keys as there are twos are all of them.
+use crate::started::smaller;
 use little::get2;
 use little::get4;
 use little::wide;
@@ -8,25 +9,19 @@ use trits::tryte_count;
 ghost use mathlib.Core.Path.{_≡_};
 ghost use mathlib.Core.Bool.{_&&_};
 ghost use mathlib.Core.List.{List};
-ghost use Prim.Native.Nat.{ℕ, _+_, _*_, _^_, _≤_, _<_};
+ghost use Prim.Native.Nat.{ℕ, _+_, _*_, _≤_, _<_};
 ghost use lib.ListN.{length, getD};
 ghost use Rattle.format.specs.Lists.{same, spread, countIn};
-ghost use Rattle.format.specs.Trits.{rank, tryteTable};
+ghost use Rattle.format.specs.Trits.{rank, tryteCount, tryteTable};
 ghost use Rattle.format.specs.Image.{bytes, nodeCount, markedNodes, grouped, starts, read};
 ghost use Rattle.samples.specs.Lent.{TritsIn};
 ghost use Rattle.proper.specs.Known.{Known};
-ghost use Rattle.proper.specs.Places.{TwosAt, Filled, Seated, SeatOf, Answered, numberIs};
+ghost use Rattle.proper.specs.Places.{TwoTable, Step, TwosAt, Answered, numberIs};
 
-// A tryte, and the twos before it.
-struct Seat {
-    tryte: usize,
-    before: usize,
-}
-
-// An entry of section 5: wrong, or its key and the seat of its place.
+// An entry of section 5: wrong, or its key.
 enum Entry {
     Wrong,
-    Key(usize, Seat),
+    Key(usize),
 }
 
 // A count of twos as an index.
@@ -36,9 +31,32 @@ fn wide16(x: u16) -> usize
     x as usize
 }
 
+// How many twos each tryte has.
+fn two_table(table: &[u8; 243]) -> [u8; 243]
+    requires { ⌜ now table ≡ tryteTable ⌝ }
+    ensures { λ r. ⌜ TwoTable r ⌝ }
+{
+    let mut counts = [0u8; 243];
+    let mut x = 0;
+    while x < 243 {
+        let twos = tryte_count(table, x, 2);
+        counts[x] = twos as u8;
+        x += 1;
+    }
+    counts
+}
+
+// The twos of tryte `x`.
+fn two_count(counts: &[u8; 243], x: usize) -> usize
+    requires { ⌜ TwoTable (now counts) × (x < 243) ⌝ }
+    ensures { λ r. ⌜ (r ≡ tryteCount 2 x 5) × (r ≤ 5) ⌝ }
+{
+    wide(counts[x])
+}
+
 // The twos before tryte `end`, from those before tryte `from`.
-fn twos_to(bs: &[u8], table: &[u8; 243], from: usize, end: usize, before: usize) -> usize
-    requires { ⌜ (now table ≡ tryteTable) × (from ≤ end)
+fn twos_to(bs: &[u8], counts: &[u8; 243], from: usize, end: usize, before: usize) -> usize
+    requires { ⌜ TwoTable (now counts) × (from ≤ end)
         × ((trits : List ℕ) × TritsIn trits (now bs) × (5 * end ≤ length trits) × (before ≡ rank 2 trits (5 * from))) ⌝ }
     ensures { λ r. ⌜ ((trits : List ℕ) → TritsIn trits (now (bs .entry)) → 5 * end ≤ length trits → before ≡ rank 2 trits (5 * from)
         → r ≡ rank 2 trits (5 * end)) ⌝ }
@@ -47,55 +65,126 @@ fn twos_to(bs: &[u8], table: &[u8; 243], from: usize, end: usize, before: usize)
     let mut q = from;
     while q < end {
         let x = wide(bs[q]);
-        n += tryte_count(table, x, 2);
+        n += two_count(counts, x);
         q += 1;
     }
     n
 }
 
-// Puts the twos before every multiple of 65 trits, 13 trytes.
-fn sample_twos(bs: &[u8], table: &[u8; 243], l: usize, twos: &mut [u16; 1932])
-    requires { ⌜ (now table ≡ tryteTable) × (length (now twos) ≡ 1932)
-        × ((trits : List ℕ) × TritsIn trits (now bs) × (length trits ≡ l) × (countIn 2 trits ≤ 65535)) ⌝ }
-    ensures { λ _. ⌜ ((trits : List ℕ) → TritsIn trits (now (bs .entry)) → length trits ≡ l → Filled trits (now (twos .entry)) (now (twos .exit))) ⌝ }
+// How many trytes lie between samples: as few as 2,048 samples allow, of two steps that are fixed.
+fn step_for(l: usize) -> usize
+    requires { ⌜ l ≤ 125536 ⌝ }
+    ensures { λ r. ⌜ Step l r ⌝ }
 {
-    let last = l / 65;
+    if l < 81880 {
+        return 8;
+    }
+    13
+}
+
+// Puts the twos before every tryte that is a multiple of `step`; past the last whole tryte, those before that one.
+fn sample_twos(bs: &[u8], counts: &[u8; 243], l: usize, step: usize, twos: &mut [u16; 2048])
+    requires { ⌜ TwoTable (now counts) × (length (now twos) ≡ 2048) × Step l step
+        × ((trits : List ℕ) × TritsIn trits (now bs) × (length trits ≡ l) × (countIn 2 trits ≤ 65535)) ⌝ }
+    ensures { λ _. ⌜ ((trits : List ℕ) → TritsIn trits (now (bs .entry)) → length trits ≡ l → TwosAt trits step (now (twos .exit))) ⌝ }
+{
+    let whole = l / 5;
+    let last = (whole + 6) / step;
     let mut n: usize = 0;
     let mut i: usize = 0;
     twos[0] = 0;
     while i < last {
-        let from = 13 * i;
-        let end = from + 13;
-        n = twos_to(bs, table, from, end, n);
+        let from = smaller(step * i, whole);
+        let end = smaller(step * (i + 1), whole);
+        n = twos_to(bs, counts, from, end, n);
         i += 1;
         twos[i] = n as u16;
     }
 }
 
-// The seat of place `p`: counted on from the seat `last` if that is at most 6 trytes back, or else from the last multiple of 65, which is 6 back on
-// the average.
-fn seat_at(bs: &[u8], table: &[u8; 243], twos: &[u16; 1932], last: Seat, p: usize) -> Seat
-    requires { ⌜ (now table ≡ tryteTable)
-        × ((trits : List ℕ) × TritsIn trits (now bs) × TwosAt trits (now twos) × Seated trits last × (p < length trits)) ⌝ }
-    ensures { λ r. ⌜ ((trits : List ℕ) → TritsIn trits (now (bs .entry)) → TwosAt trits (now (twos .entry)) → Seated trits last → p < length trits
-        → SeatOf trits p r) ⌝ }
+// The twos of trytes `from` up to `end`, which are at most `half`, in `half` turns: no turn is to be guessed, since places come in no order.
+fn twos_between(bs: &[u8], counts: &[u8; 243], from: usize, end: usize, half: usize) -> usize
+    requires { ⌜ TwoTable (now counts) × (from ≤ end) × (end ≤ from + half) × (half ≤ 6) × ((trits : List ℕ) × TritsIn trits (now bs) × (5 * end ≤ length trits) × (0 < length trits)) ⌝ }
+    ensures { λ r. ⌜ ((trits : List ℕ) → TritsIn trits (now (bs .entry)) → 5 * end ≤ length trits → rank 2 trits (5 * from) + r ≡ rank 2 trits (5 * end)) ⌝ }
 {
-    let end = p / 5;
-    let start = last.tryte;
-    if start <= end {
-        if end < start + 7 {
-            let on = twos_to(bs, table, start, end, last.before);
-            return Seat {
-                tryte: end,
-                before: on,
-            };
-        }
+    let last = bs.len() - 1;
+    let mut n: usize = 0;
+    let mut d: usize = 0;
+    while d < half {
+        let q = from + d;
+        let one = (q < end) as usize;
+        let at = smaller(q, last);
+        let x = wide(bs[at]);
+        n += one * two_count(counts, x);
+        d += 1;
     }
-    let i = p / 65;
+    n
+}
+
+// The twos before tryte `q`, by the nearest sample, before or behind it.
+fn twos_near(
+    bs: &[u8],
+    counts: &[u8; 243],
+    twos: &[u16; 2048],
+    l: usize,
+    step: usize,
+    half: usize,
+    q: usize,
+) -> usize
+    requires { ⌜ TwoTable (now counts) × (half ≤ 6) × (step ≤ 2 * half + 1) × Step l step
+        × ((trits : List ℕ) × TritsIn trits (now bs) × (length trits ≡ l) × TwosAt trits step (now twos) × (5 * q < l)) ⌝ }
+    ensures { λ r. ⌜ ((trits : List ℕ) → TritsIn trits (now (bs .entry)) → length trits ≡ l → TwosAt trits step (now (twos .entry))
+        → r ≡ rank 2 trits (5 * q)) ⌝ }
+{
+    let i = (q + half) / step;
     let sample = wide16(twos[i]);
-    let from = 13 * i;
-    let before = twos_to(bs, table, from, end, sample);
-    Seat { tryte: end, before }
+    let at = smaller(step * i, l / 5);
+    let from = smaller(at, q);
+    let n = twos_between(bs, counts, from, at + q - from, half);
+    if q < at {
+        return sample - n;
+    }
+    sample + n
+}
+
+// The same by the step: the divisor and the number of turns are constants in each case.
+fn twos_whole(
+    bs: &[u8],
+    counts: &[u8; 243],
+    twos: &[u16; 2048],
+    l: usize,
+    step: usize,
+    q: usize,
+) -> usize
+    requires { ⌜ TwoTable (now counts) × Step l step
+        × ((trits : List ℕ) × TritsIn trits (now bs) × (length trits ≡ l) × TwosAt trits step (now twos) × (5 * q < l)) ⌝ }
+    ensures { λ r. ⌜ ((trits : List ℕ) → TritsIn trits (now (bs .entry)) → length trits ≡ l → TwosAt trits step (now (twos .entry))
+        → r ≡ rank 2 trits (5 * q)) ⌝ }
+{
+    if step == 8 {
+        return twos_near(bs, counts, twos, l, 8, 4, q);
+    }
+    twos_near(bs, counts, twos, l, 13, 6, q)
+}
+
+// The twos before place `p`: those before its tryte, and those of the tryte cut behind its first trits.
+fn twos_before(
+    bs: &[u8],
+    counts: &[u8; 243],
+    twos: &[u16; 2048],
+    l: usize,
+    step: usize,
+    p: usize,
+) -> usize
+    requires { ⌜ TwoTable (now counts) × Step l step
+        × ((trits : List ℕ) × TritsIn trits (now bs) × (length trits ≡ l) × TwosAt trits step (now twos) × (p < l)) ⌝ }
+    ensures { λ r. ⌜ ((trits : List ℕ) → TritsIn trits (now (bs .entry)) → length trits ≡ l → TwosAt trits step (now (twos .entry)) → r ≡ rank 2 trits p) ⌝ }
+{
+    let q = p / 5;
+    let before = twos_whole(bs, counts, twos, l, step, q);
+    let x = wide(bs[q]);
+    let front = x % power(p % 5);
+    before + two_count(counts, front)
 }
 
 // Trit `p` of trytes, by one division: the places of section 5 come in no order that a branch could follow.
@@ -109,52 +198,38 @@ fn lone_trit(bs: &[u8], p: usize) -> usize
     x / w % 3
 }
 
-// The twos before place `p`: those before its tryte, and those of the tryte cut behind its first trits.
-fn twos_before(bs: &[u8], table: &[u8; 243], seat: Seat, p: usize) -> usize
-    requires { ⌜ (now table ≡ tryteTable) × ((trits : List ℕ) × TritsIn trits (now bs) × SeatOf trits p seat × (p < length trits)) ⌝ }
-    ensures { λ r. ⌜ ((trits : List ℕ) → TritsIn trits (now (bs .entry)) → SeatOf trits p seat → p < length trits → r ≡ rank 2 trits p) ⌝ }
-{
-    let q = seat.tryte;
-    let x = wide(bs[q]);
-    let w = power(p % 5);
-    let front = x % w;
-    seat.before + tryte_count(table, front, 2)
-}
-
-// Entry `e` of section 5: a place that holds a 2, with a key of at least `low`; `last` is a seat to count from.
+// Entry `e` of section 5: a place that holds a 2, with a key of at least `low`.
 fn entry_key(
     bs: &[u8],
     hs: &[u8],
-    table: &[u8; 243],
-    twos: &[u16; 1932],
+    counts: &[u8; 243],
+    twos: &[u16; 2048],
     part: &[u8],
     l: usize,
+    step: usize,
     e: usize,
     low: usize,
-    last: Seat,
 ) -> Entry
-    requires { ⌜ (now table ≡ tryteTable) × (4 * e + 4 ≤ length (now part))
-        × ((trits : List ℕ) × (H : List ℕ) × Known trits H (now bs) (now hs) × (length trits ≡ l) × TwosAt trits (now twos) × Seated trits last) ⌝ }
-    ensures { λ r. ⌜ ((trits H : List ℕ) → Known trits H (now (bs .entry)) (now (hs .entry)) → length trits ≡ l → TwosAt trits (now (twos .entry))
-        → Seated trits last → Answered trits H low (read 4 (4 * e) (now (part .entry))) r) ⌝ }
+    requires { ⌜ TwoTable (now counts) × Step l step × (4 * e + 4 ≤ length (now part))
+        × ((trits : List ℕ) × (H : List ℕ) × Known trits H (now bs) (now hs) × (length trits ≡ l) × TwosAt trits step (now twos)) ⌝ }
+    ensures { λ r. ⌜ ((trits H : List ℕ) → Known trits H (now (bs .entry)) (now (hs .entry)) → length trits ≡ l → TwosAt trits step (now (twos .entry))
+        → Answered trits H low (read 4 (4 * e) (now (part .entry))) r) ⌝ }
 {
-    let at = 4 * e;
-    let p = get4(part, at);
+    let p = get4(part, 4 * e);
     if l <= p {
         return Entry::Wrong;
     }
     if lone_trit(bs, p) != 2 {
         return Entry::Wrong;
     }
-    let seat = seat_at(bs, table, twos, last, p);
-    let j = twos_before(bs, table, seat, p);
+    let j = twos_before(bs, counts, twos, l, step, p);
     let from = 2 * j;
     let shadow = get2(hs, from);
     let key = 131072 * shadow + p;
     if key < low {
         return Entry::Wrong;
     }
-    Entry::Key(key, seat)
+    Entry::Key(key)
 }
 
 // Whether a section of 4 bytes a number has number `j`, and that is `x`.
@@ -169,39 +244,34 @@ fn number_is(part: &[u8], j: usize, x: usize) -> bool
     get4(part, at) == x
 }
 
-// Sections 4 and 5: the places of the twos, grouped by node rising, then by place; and the index of each node's first place, then k. Where a place's
-// node is another than the one before, its index is the next number of section 4.
-pub fn index_right(
+// Sections 4 and 5 by keys, with the samples: where a place's node is another than the one before, its index is the next number of section 4.
+fn keys_right(
     bs: &[u8],
     hs: &[u8],
-    table: &[u8; 243],
+    counts: &[u8; 243],
+    twos: &[u16; 2048],
     firsts: &[u8],
     part: &[u8],
     l: usize,
+    step: usize,
 ) -> bool
-    requires { ⌜ (now table ≡ tryteTable) × ((trits : List ℕ) × (H : List ℕ) × Known trits H (now bs) (now hs) × (length trits ≡ l) × (length (now part) ≡ 4 * length H)) ⌝ }
-    ensures { λ r. ⌜ ((trits H : List ℕ) → Known trits H (now (bs .entry)) (now (hs .entry)) → length trits ≡ l
+    requires { ⌜ TwoTable (now counts) × Step l step
+        × ((trits : List ℕ) × (H : List ℕ) × Known trits H (now bs) (now hs) × (length trits ≡ l) × TwosAt trits step (now twos) × (length (now part) ≡ 4 * length H)) ⌝ }
+    ensures { λ r. ⌜ ((trits H : List ℕ) → Known trits H (now (bs .entry)) (now (hs .entry)) → length trits ≡ l → TwosAt trits step (now (twos .entry))
         → length (now (firsts .entry)) ≡ 4 * (length (markedNodes trits H) + 1)
         → r ≡ (same (now (firsts .entry)) (bytes 4 (starts trits H)) && same (now (part .entry)) (bytes 4 (grouped trits H (nodeCount trits))))) ⌝ }
 {
-    let mut twos = [0u16; 1932];
-    sample_twos(bs, table, l, &mut twos);
     let many = part.len() / 4;
     let mut low: usize = 0;
-    let mut last = Seat {
-        tryte: 0,
-        before: 0,
-    };
     let mut j: usize = 0;
     let mut e: usize = 0;
     while e < many {
-        let Entry::Key(key, seat) = entry_key(bs, hs, table, &twos, part, l, e, low, last) else {
+        let Entry::Key(key) = entry_key(bs, hs, counts, twos, part, l, step, e, low) else {
             return false;
         };
         let before = low / 131072;
         let index = e;
         low = key + 1;
-        last = seat;
         e += 1;
         if before < key / 131072 {
             let right = number_is(firsts, j, index);
@@ -213,4 +283,27 @@ pub fn index_right(
         }
     }
     number_is(firsts, j, many)
+}
+
+// Sections 4 and 5: the places of the twos, grouped by node rising, then by place; and the index of each node's first place, then k. `twos` is for
+// the samples.
+pub fn index_right(
+    bs: &[u8],
+    hs: &[u8],
+    table: &[u8; 243],
+    firsts: &[u8],
+    part: &[u8],
+    l: usize,
+    twos: &mut [u16; 2048],
+) -> bool
+    requires { ⌜ (now table ≡ tryteTable) × (length (now twos) ≡ 2048)
+        × ((trits : List ℕ) × (H : List ℕ) × Known trits H (now bs) (now hs) × (length trits ≡ l) × (length (now part) ≡ 4 * length H)) ⌝ }
+    ensures { λ r. ⌜ ((trits H : List ℕ) → Known trits H (now (bs .entry)) (now (hs .entry)) → length trits ≡ l
+        → length (now (firsts .entry)) ≡ 4 * (length (markedNodes trits H) + 1)
+        → r ≡ (same (now (firsts .entry)) (bytes 4 (starts trits H)) && same (now (part .entry)) (bytes 4 (grouped trits H (nodeCount trits))))) ⌝ }
+{
+    let counts = two_table(table);
+    let step = step_for(l);
+    sample_twos(bs, &counts, l, step, twos);
+    keys_right(bs, hs, &counts, twos, firsts, part, l, step)
 }

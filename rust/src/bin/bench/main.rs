@@ -1,5 +1,5 @@
 //! Times the library beside ordinary Rust with growable lists, in one run:
-//! packing and checking over six shapes and five sizes, then batches of
+//! packing and checking over eight shapes and five sizes, then batches of
 //! questions of each kind.
 
 mod asking;

@@ -1,5 +1,5 @@
 //! glouds_pack beside the plain packer, and glouds_check beside glouds_pack:
-//! six shapes, five sizes.
+//! eight shapes, five sizes.
 
 use crate::times::{self, Times};
 use glouds::make::{self, Xorshift};
@@ -12,7 +12,7 @@ const TRITS_A_TIMING: usize = 60_000;
 /// A shape: its name and the graph of about so many trits, at most the largest.
 type Shape = (&'static str, fn(usize) -> Graph);
 
-const SHAPES: [Shape; 6] = [
+const SHAPES: [Shape; 8] = [
     ("chain", |l| make::chain((l / 2).min(30_000))),
     ("all roots", |l| make::all_roots((l / 2).min(30_000))),
     ("random, shared operands", |l| {
@@ -28,6 +28,13 @@ const SHAPES: [Shape; 6] = [
     ("roots used in turn", |l| {
         let n = (l * 30_000 / 125_535).min(30_000);
         make::used_in_turn(n, n * 65_535 / 30_000)
+    }),
+    ("20 roots used in turn", |l| {
+        make::used_in_turn(20, (l - 41).min(65_535))
+    }),
+    ("roots used at random", |l| {
+        let n = (l * 8_300 / 82_136).min(8_300);
+        make::used_at_random(n, n * 65_535 / 8_300, &mut Xorshift::new(37))
     }),
 ];
 

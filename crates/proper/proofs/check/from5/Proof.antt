@@ -45,25 +45,27 @@ front c = sym (ap checkedNumber (c .enum-told .given .1)) ∙ c .before .before 
 room : (c : tie.After-enum-told) → let x = c .before .before .before .before .before .before .before .before .args in 4 + 4 * x .lay .shadows ≤ length (x .rest .now)
 room c = let x = c .before .before .before .before .before .before .before .before .args in opens-room 25 (x .lay .shadows) (4 * x .lay .shadows) (x .rest .now) (sym (front c))
 
-index-right-requires : tie.Need-index-right-requires
-index-right-requires c κs =
+both-right-requires : tie.Need-both-right-requires
+both-right-requires c κs =
     let told = c .before .before .before in
-    let t = told .before .before .before .before .before .before .before .before .pre .1 in
+    let p = told .before .before .before .before .before .before .before .before .pre in
+    let t = p .1 in
     let C = counted (t .2) in
-    (c .before .before .tryte-table .ensures, (t .0, t .1, t .2 .known, counted-trits C, c .contents .ensures .1 ∙ ap (λ (k : ℕ). 4 * k) (sym (counted-shadows C))))
+    let marked = p .0 ∙ ap (λ (k : ℕ). 4 * (k + 1)) (sym (counted-marked C)) in
+    (c .before .before .tryte-table .ensures, (t .0, t .1, t .2 .known, counted-trits C, sym (counted-nodes C), marked, c .contents .ensures .1 ∙ ap (λ (k : ℕ). 4 * k) (sym (counted-shadows C))))
 
 -- what sections 4 and 5 give
-gives : (c : tie.After-index-right) → let s = c .before .before .before .before .before .before .before .before .before .before .before .before in let x = s .args in (trits H : List ℕ)
+gives : (c : tie.After-both-right) → let s = c .before .before .before .before .before .before .before .before .before .before .before .before in let x = s .args in (trits H : List ℕ)
     → Through trits H (x .bs .now) (x .hs .now) (x .marks .now) (x .lay)
-    → (fault 25 (c .index-right .result) then checkGiven (givenFrom 3 trits H) (restOf (4 * x .lay .shadows) (x .rest .now)))
+    → (fault 25 (c .both-right .result) then checkGiven (givenFrom 3 trits H) (restOf (4 * x .lay .shadows) (x .rest .now)))
     ≡ (fault 25 (same (x .firsts .now) (bytes 4 (starts trits H))) then checkGiven (givenFrom 2 trits H) (x .rest .now))
 unfolding given section5
 gives c trits H T =
     let s = c .before .before .before .before .before .before .before .before .before .before .before .before in
     let C = counted T in
     both-open (section5 trits H) (givenFrom 3 trits H) (s .args .rest .now) (front5 trits H (T .marked .proper) (counted-shadows C)) (front (c .before .before .before .before))
-    (c .before .contents .ensures .0) (same (s .args .firsts .now) (bytes 4 (starts trits H))) (c .index-right .result)
-    (c .index-right .ensures trits H (T .known) (counted-trits C) (s .pre .0 ∙ ap (λ (k : ℕ). 4 * (k + 1)) (sym (counted-marked C))))
+    (c .before .contents .ensures .0) (same (s .args .firsts .now) (bytes 4 (starts trits H))) (c .both-right .result)
+    (c .both-right .ensures trits H (T .known) (counted-trits C) (sym (counted-nodes C)) (s .pre .0 ∙ ap (λ (k : ℕ). 4 * (k + 1)) (sym (counted-marked C))))
 
 from6-requires : tie.Need-from6-requires
 from6-requires c κs =
@@ -91,7 +93,7 @@ from5-spec =
     (λ c. search needs)
     (λ c κs. search needs)
     (λ c κs. room (c .before .before))
-    index-right-requires
+    both-right-requires
     (λ c κs. room (c .before .before .before .before .before .before))
     from6-requires
     returns-2

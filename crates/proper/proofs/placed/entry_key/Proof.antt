@@ -7,7 +7,7 @@ use borrow.Author.Needs.{needs}
 use lib.ListN.{length, getD}
 use Rattle.samples.specs.Lent.{TritsIn}
 use Rattle.proper.specs.Known.{Known}
-use Rattle.proper.specs.Places.{key, TwosAt, Seated, SeatOf}
+use Rattle.proper.specs.Places.{key, TwosAt}
 use Rattle.proper.proofs.TwoLaws.{trit-in, tryte-inside}
 use Rattle.proper.proofs.KeyLaws.{many-are, shadow-room, key-is}
 use Rattle.proper.proofs.placed.entry_key.Statement.{statement}
@@ -23,40 +23,33 @@ here : (c : tie.Else2) → let g = c .before .before .before in let s = g .befor
     (trits : List ℕ) → TritsIn trits (s .args .bs .now) → length trits ≡ s .args .l → (g .get4 .result < length trits) × (getD trits (g .get4 .result) 0 ≡ 2)
 here c trits T n = (omega arith, omega (arith, trit-is (c .before) trits T, c .before .lone-trit .ensures .1))
 
--- the seat of its place
-seated : (c : tie.After-seat-at) → let g = c .before .before .before .before in let s = g .before .before .before .before in
-    (trits : List ℕ) → TritsIn trits (s .args .bs .now) → length trits ≡ s .args .l → TwosAt trits (s .args .twos .now) → Seated trits (s .args .last) → SeatOf trits (g .get4 .result) (c .seat-at .result)
-seated c trits T n W S = c .seat-at .ensures trits T W S (here (c .before) trits T n .0)
-
 -- the twos before it are fewer than the shadows
-room : (c : tie.After-twos-before) → let s = c .before .before .before .before .before .before .before .before .before in 2 * c .twos-before .result + 2 ≤ length (s .args .hs .now)
+room : (c : tie.After-twos-before) → let s = c .before .before .before .before .before .before .before .before in 2 * c .twos-before .result + 2 ≤ length (s .args .hs .now)
 room c =
-    let t = c .before .before .before .before .before .before .before .before .before .pre .2 in
-    let T = t .2 .trits-in in
-    let h = here (c .before .before) (t .0) T (t .3) in
-    omega (arith, many-are (t .2), shadow-room (t .2) (h .0) (h .1), c .twos-before .ensures (t .0) T (seated (c .before) (t .0) T (t .3) (t .4) (t .5)) (h .0))
+    let t = c .before .before .before .before .before .before .before .before .pre .3 in
+    let h = here (c .before) (t .0) (t .2 .trits-in) (t .3) in
+    omega (arith, many-are (t .2), shadow-room (t .2) (h .0) (h .1), c .twos-before .ensures (t .0) (t .2 .trits-in) (t .3) (t .4))
 
 -- its key
-keyed : (c : tie.After-get2) → let g = c .before .before .before .before .before .before in let s = g .before .before .before .before in
-    (trits H : List ℕ) → Known trits H (s .args .bs .now) (s .args .hs .now) → length trits ≡ s .args .l → TwosAt trits (s .args .twos .now) → Seated trits (s .args .last)
+keyed : (c : tie.After-get2) → let g = c .before .before .before .before .before in let s = g .before .before .before .before in
+    (trits H : List ℕ) → Known trits H (s .args .bs .now) (s .args .hs .now) → length trits ≡ s .args .l → TwosAt trits (s .args .step) (s .args .twos .now)
     → 131072 * c .get2 .result + g .get4 .result ≡ key trits H (g .get4 .result)
-keyed c trits H K n W S =
-    let T = K .trits-in in
-    let h = here (c .before .before .before) trits T n in
-    key-is K (h .0) (h .1) (c .before .twos-before .ensures trits T (seated (c .before .before) trits T n W S) (h .0)) (c .get2 .ensures .0)
+keyed c trits H K n W =
+    let h = here (c .before .before) trits (K .trits-in) n in
+    key-is K (h .0) (h .1) (c .before .twos-before .ensures trits (K .trits-in) n W) (c .get2 .ensures .0)
 
 returns-3 : tie.Need-returns-3
 returns-3 c =
-    let e = c .before .before .before .before .before .before .before .get4 .ensures .0 in
-    λ trits H K n W S. rw (← e) (λ R. omega (arith, keyed (c .before) trits H K n W S, R .above))
+    let e = c .before .before .before .before .before .before .get4 .ensures .0 in
+    λ trits H K n W. rw (← e) (λ R. omega (arith, keyed (c .before) trits H K n W, R .above))
 
 returns-4 : tie.Need-returns-4
 returns-4 c =
-    let e = c .before .before .before .before .before .before .before .get4 .ensures .0 in
-    λ trits H K n W S.
-    let h = here (c .before .before .before .before) trits (K .trits-in) n in
-    let k = keyed (c .before) trits H K n W S in
-    rw (← e) (record { inside = h .0; two = h .1; above = omega (arith, k) }, k, seated (c .before .before .before) trits (K .trits-in) n W S)
+    let e = c .before .before .before .before .before .before .get4 .ensures .0 in
+    λ trits H K n W.
+    let h = here (c .before .before .before) trits (K .trits-in) n in
+    let k = keyed (c .before) trits H K n W in
+    rw (← e) (record { inside = h .0; two = h .1; above = omega (arith, k) }, k)
 
 pub entry-key-spec : {M : Type 1} → statement M
 entry-key-spec =
@@ -64,11 +57,10 @@ entry-key-spec =
     (tie.spec
     (λ c. search needs)
     (λ c κs. search needs)
-    (λ c trits H K n W S R. omega (arith, c .before .get4 .ensures .0, R .inside))
-    (λ c κs. let t = c .before .before .before .before .before .pre .2 in omega (arith, tryte-inside (t .2 .trits-in) (c .before .get4 .result / 5) (omega (arith, t .3))))
-    (λ c trits H K n W S R. omega (arith, trit-is (c .before) trits (K .trits-in), rw (← c .before .before .before .get4 .ensures .0) at (R .two)))
-    (λ c κs. let s = c .before .before .before .before .before .before .before in let t = s .pre .2 in (s .pre .0, (t .0, t .2 .trits-in, t .4, t .5, here c (t .0) (t .2 .trits-in) (t .3) .0)))
-    (λ c κs. let p = c .before .before .before .before .before .before .before .before .pre in let t = p .2 in let T = t .2 .trits-in in (p .0, (t .0, T, seated c (t .0) T (t .3) (t .4) (t .5), here (c .before) (t .0) T (t .3) .0)))
+    (λ c trits H K n W R. omega (arith, c .before .get4 .ensures .0, R .inside))
+    (λ c κs. let t = c .before .before .before .before .before .pre .3 in omega (arith, tryte-inside (t .2 .trits-in) (c .before .get4 .result / 5) (omega (arith, t .3))))
+    (λ c trits H K n W R. omega (arith, trit-is (c .before) trits (K .trits-in), rw (← c .before .before .before .get4 .ensures .0) at (R .two)))
+    (λ c κs. let p = c .before .before .before .before .before .before .before .pre in let t = p .3 in (p .0, p .1, (t .0, t .2 .trits-in, t .3, t .4, omega arith)))
     (λ c. omega (arith, room c))
     (λ c κs. room c)
     (λ c. search needs)
