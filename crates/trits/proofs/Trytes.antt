@@ -25,7 +25,7 @@ use Rattle.trits.specs.declared.Layout.{Layout}
 use Rattle.trits.specs.declared.Ranks.{Ranks}
 use Rattle.trits.specs.Layout.{layoutOf, Laid}
 use Rattle.trits.specs.Search.{Tryte, PlaceIn, Between, ranksOf, frontOf}
-use Rattle.trits.proofs.Searching.{inside, later, sooner}
+use Rattle.trits.proofs.Searching.{rank-few, inside, later, sooner}
 
 -- the zeros are the same, and the ones
 pub both : {z z′ o o′ : ℕ} → z ≡ z′ → o ≡ o′ → _≡_ {A = Ranks} (record { zeros = z; ones = o }) (record { zeros = z′; ones = o′ })
@@ -162,6 +162,13 @@ pub record Capped (t : ℕ) (xs : List ℕ) (end q n : ℕ) : Type 0 where
 
 pub capped : {t : ℕ} {xs : List ℕ} {end q n : ℕ} → q ≤ end → n ≡ rank t xs (5 * q) → Capped t xs end q n
 capped {t} {xs} h e = record { until = λ l. e; past = λ l. e ∙ ap (λ (k : ℕ). rank t xs (5 * k)) (omega arith) }
+
+pub capped-few : {b : List ℕ} {t end q n : ℕ} → Whole b → Capped t (tritsOf b) end q n → n ≤ 125536
+capped-few {t = t} {end = end} {q = q} {n = n} w v = go (decLe q end)
+  where
+    go : Dec (q ≤ end) → n ≤ 125536
+    go (yes h) = omega (arith, v .until h, rank-few w t (5 * q))
+    go (no h) = omega (arith, v .past (omega arith), rank-few w t (5 * end))
 
 module _ {t : ℕ} {xs : List ℕ} {end q n : ℕ} (v : Capped t xs end q n) where
   pub capped-more : {x k : ℕ} → Tryte xs q x → k ≡ tryteCount t x 5 → 5 * end ≤ length xs → q + 1 ≤ end → Capped t xs end (q + 1) (n + k)

@@ -33,13 +33,29 @@ loop-holds c =
       passed = λ k. absurd (omega arith);
     }
 
+-- the call
+abbrev start : tie.At-loop Inv-loop μ-loop → tie.Start Inv-loop μ-loop
+start l = l .before .before .before
+
+-- there is a whole tryte to read
+there : (c : tie.In-loop Inv-loop μ-loop) → let q = c .before .loop .q in (5 * q + 5 ≤ length (tritsOf (start (c .before) .args .image .now))) × (q < 125536)
+there c =
+    let L = start (c .before) .pre .0 in
+    omega (arith, c .loop-test .taken, c .before .before .last-tryte .ensures, trits-is L, few (L .whole))
+
 -- one tryte more
-next : (c : tie.After-tryte-count Inv-loop μ-loop) → let x = c .before .before .before .before .before .before in
-    let l = c .before .before .before .loop in l .n + c .tryte-count .result ≡ rank (x .args .t) (tritsOf (x .args .image .now)) (5 * (l .q + 1))
+next : (c : tie.After-tryte-count Inv-loop μ-loop) → let l = c .before .before .before in let x = start l .args in
+    l .loop .n + c .tryte-count .result ≡ rank (x .t) (tritsOf (x .image .now)) (5 * (l .loop .q + 1))
 next c =
-    let s = c .before .before .before in
-    let x = s .before .before .before in
-    omega (arith, s .loop .inv .counted, c .tryte-count .ensures .0, rank-next (c .before .tryte .ensures) (x .args .t) (omega (arith, s .before .last-tryte .ensures, trits-is (x .pre .0))))
+    let t = c .before in
+    let l = t .before .before in
+    omega (arith, l .loop .inv .counted, c .tryte-count .ensures .0, rank-next (t .tryte .ensures) (start l .args .t) (there (t .before) .0))
+
+add-n : tie.Need-add-n Inv-loop μ-loop
+add-n c =
+    let l = c .before .before .before in
+    let x = start l in
+    omega (arith, next c, rank-few (x .pre .0 .whole) (x .args .t) (5 * (l .loop .q + 1)))
 
 -- the last tryte ends the block, or all trits
 through : (t : ℕ) (xs : List ℕ) (block last : ℕ) → last ≤ 5 * block + 4 → (last < 5 * block + 4 → length xs ≤ 5 * (last + 1)) → rank t xs (25 * (block + 1)) ≤ rank t xs (5 * (last + 1))
@@ -52,7 +68,7 @@ through t xs block last h short = go (decLe (5 * block + 4) last)
 returns : tie.Need-returns Inv-loop μ-loop
 returns c =
     let l = c .before in
-    let x = l .before .before .before in
+    let x = start l in
     let xs = tritsOf (x .args .image .now) in
     let t = x .args .t in
     let last = l .before .last-tryte .result in
@@ -68,10 +84,10 @@ find-tryte-spec =
     (λ c. let x = c .before in omega (arith, few (x .pre .0 .whole), inside (x .pre .3)))
     (λ c κs. let x = c .before in omega (arith, few (x .pre .0 .whole), inside (x .pre .3), trits-is (x .pre .0)))
     loop-holds
-    (λ c κs. let x = c .before .before .before .before in (x .pre .0, omega (arith, c .before .before .last-tryte .ensures, trits-is (x .pre .0))))
-    (λ c κs. let x = c .before .before .before .before .before in (x .pre .1, c .tryte .ensures .low, x .pre .2))
-    (λ c. let x = c .before .before .before .before .before .before in omega (arith, next c, rank-few (x .pre .0 .whole) (x .args .t) (5 * (c .before .before .before .loop .q + 1))))
-    (λ c. let x = c .before .before .before .before .before .before in omega (arith, c .before .before .before .before .last-tryte .ensures, few (x .pre .0 .whole), trits-is (x .pre .0)))
+    (λ c κs. (start (c .before) .pre .0, omega (arith, there c)))
+    (λ c κs. let x = start (c .before .before) in (x .pre .1, c .tryte .ensures .low, x .pre .2))
+    add-n
+    (λ c. omega (arith, there (c .before .before)))
     (λ c. omega arith)
     (λ c. scan-past (c .before .before .before .before .loop .inv) (c .before .before .before .loop-test .taken) (next (c .before)) (c .if1 .taken))
     (λ c. omega arith)

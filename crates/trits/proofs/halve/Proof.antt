@@ -26,28 +26,32 @@ loop-holds c =
     (λ w. rw (w .1) (starts-whole (x .args .above) (x .pre .0) (x .pre .2) (w .0 .left)))
     (c .if1 .came)
 
+-- the call
+abbrev start : tie.At-loop Inv-loop μ-loop → tie.Start Inv-loop μ-loop
+start l = l .before .before .before
+
+add-mid : tie.Need-add-mid Inv-loop μ-loop
+add-mid c = let l = c .before .before in omega (arith, l .loop .inv, room (start l))
+
 counted-requires : tie.Need-counted-requires Inv-loop μ-loop
 counted-requires c κs =
-    let x = c .before .before .before .before .before in
-    let l = c .before .before .loop in (
-      x .pre .0,
-      x .pre .1,
-      omega (arith, l .inv),
-      mid-first (x .args .above) (x .pre .0) (x .pre .2) (l .lo + l .len / 2) (omega (arith, l .inv)) (omega (arith, l .inv)),
-    )
+    let l = c .before .before in
+    let x = start l in
+    let v = l .loop .inv in
+    (x .pre .0, x .pre .1, omega (arith, v), mid-first (x .args .above) (x .pre .0) (x .pre .2) (l .loop .lo + l .loop .len / 2) (omega (arith, v)) (omega (arith, v)))
 
 -- the sum is the rank before the middle multiple
-reading : (c : tie.After-counted Inv-loop μ-loop) → let a = c .before .before .before .before .before .before .args in let l = c .before .before .before .loop in
-    a .above .before + c .counted .result ≡ rank (a .t) (tritsOf (a .image .now)) (a .s .step * (l .lo + l .len / 2))
+reading : (c : tie.After-counted Inv-loop μ-loop) → let l = c .before .before .before in let a = start l .args in
+    a .above .before + c .counted .result ≡ rank (a .t) (tritsOf (a .image .now)) (a .s .step * (l .loop .lo + l .loop .len / 2))
 reading c =
-    let x = c .before .before .before .before .before .before in
+    let x = start (c .before .before .before) in
     omega (arith, c .counted .ensures, in-steps (x .args .above) (x .pre .0) (x .pre .2) .counted)
 
 add-x : tie.Need-add-x Inv-loop μ-loop
 add-x c =
-    let x = c .before .before .before .before .before .before in
-    let l = c .before .before .before .loop in
-    omega (arith, reading c, rank-few (x .pre .0 .whole) (x .args .t) (x .args .s .step * (l .lo + l .len / 2)))
+    let l = c .before .before .before in
+    let x = start l in
+    omega (arith, reading c, rank-few (x .pre .0 .whole) (x .args .t) (x .args .s .step * (l .loop .lo + l .loop .len / 2)))
 
 loop-again : tie.Need-loop-again Inv-loop μ-loop
 loop-again c = upper (c .before .before .before .before .loop .inv) (c .before .before .before .loop-test .taken) (reading (c .before)) (c .if2 .taken)
@@ -65,7 +69,7 @@ halve-spec =
     (λ c. room (c .before) .0)
     (λ c. omega (arith, room (c .before .before)))
     loop-holds
-    (λ c. omega (arith, c .before .before .loop .inv, room (c .before .before .before .before .before)))
+    add-mid
     counted-requires
     add-x
     (λ c. omega arith)

@@ -1,5 +1,5 @@
 -- `trits::rank_block` meets its contract: three samples add up, by `three-samples`. Assumes nothing.
-use Prim.Native.Nat.{_+_, _*_, _≤_}
+use Prim.Native.Nat.{ℕ, _+_, _*_, _≤_}
 use native.Mathlib.Omega.{arith}
 use mathlib.Core.Path.{_≡_}
 use borrow.Author.Needs.{needs}
@@ -28,17 +28,25 @@ near-requires c κs =
     let S = near-sampled (x .pre .0) in
     rw (c .near .ensures) (S, x .pre .1, omega (arith, S .last-is), omega arith)
 
-summed : (c : tie.After-counted3) → let a = c .before .before .before .before .before .before .before .args in
-    c .before .before .before .before .counted .result + c .before .before .counted2 .result + c .counted3 .result ≡ rank (a .t) (tritsOf (a .image .now)) (25 * a .g)
+-- the call
+abbrev start : tie.After-counted → tie.Start
+start c = c .before .before .before
+
+abbrev sum : tie.After-counted3 → ℕ
+sum c = let two = c .before .before in two .before .before .counted .result + two .counted2 .result + c .counted3 .result
+
+summed : (c : tie.After-counted3) → let a = start (c .before .before .before .before) .args in sum c ≡ rank (a .t) (tritsOf (a .image .now)) (25 * a .g)
 summed c =
-    let a = c .before .before .before .before .before .before .before .args in
+    let two = c .before .before in
+    let one = two .before .before in
+    let a = start one .args in
     three-samples (a .t) (tritsOf (a .image .now)) (a .g) _ _ _
-    (rw (c .before .before .before .before .before .far .ensures) at (c .before .before .before .before .counted .ensures))
-    (rw (c .before .before .before .middle .ensures) at (c .before .before .counted2 .ensures))
+    (rw (one .before .far .ensures) at (one .counted .ensures))
+    (rw (two .before .middle .ensures) at (two .counted2 .ensures))
     (rw (c .before .near .ensures) at (c .counted3 .ensures))
 
-fits : (c : tie.After-counted3) → c .before .before .before .before .counted .result + c .before .before .counted2 .result + c .counted3 .result ≤ 125536
-fits c = let x = c .before .before .before .before .before .before .before in omega (arith, summed c, rank-few (x .pre .0 .whole) (x .args .t) (25 * x .args .g))
+fits : (c : tie.After-counted3) → sum c ≤ 125536
+fits c = let x = start (c .before .before .before .before) in omega (arith, summed c, rank-few (x .pre .0 .whole) (x .args .t) (25 * x .args .g))
 
 pub rank-block-spec : {M : Type 1} → statement M
 rank-block-spec =

@@ -24,19 +24,23 @@ trytes-require c κs =
     let e : 5 * (5 * (p / 25)) ≡ 25 * (p / 25) = omega arith in
     (laid s, x .pre .1, omega arith, omega arith, omega arith, rw e (both (c .before .rank-block .ensures) (c .rank-block2 .ensures)))
 
+-- the image is known
+abbrev known : tie.After-rank-trytes → tie.After-shared-slice-known
+known c = c .before .before .before
+
 whole : tie.Need-returns
 whole c =
-    let p = c .before .before .before .before .before .args .p in
+    let p = known (c .before) .before .args .p in
     let e : 5 * (p / 5) ≡ p = omega arith in
     rw e at (c .before .rank-trytes .ensures)
 
-summed : (c : tie.After-tryte-front) → let x = c .before .before .before .before .before .before .before in
-    let w = c .before .before .before .rank-trytes .result in let f = c .tryte-front .result in
-    _≡_ (record { zeros = w .zeros + f .zeros; ones = w .ones + f .ones }) (ranksOf (tritsOf (x .args .image .now)) (x .args .p))
+summed : (c : tie.After-tryte-front) → let s = c .before .before .before in let x = known s .before .args in
+    let w = s .rank-trytes .result in let f = c .tryte-front .result in
+    _≡_ (record { zeros = w .zeros + f .zeros; ones = w .ones + f .ones }) (ranksOf (tritsOf (x .image .now)) (x .p))
 summed c =
     let t = c .before in
     let s = t .before .before in
-    let x = s .before .before .before .before in
+    let x = known s .before in
     let p = x .args .p in
     let e : 5 * (p / 5) + p % 5 ≡ p = omega arith in
     rw e at (ranks-more (t .tryte .ensures) (p % 5) (omega arith) (omega (arith, x .pre)) _ _ (s .rank-trytes .ensures) (c .tryte-front .ensures))
@@ -44,7 +48,7 @@ summed c =
 few : (c : tie.After-tryte-front) → let w = c .before .before .before .rank-trytes .result in let f = c .tryte-front .result in
     (w .zeros + f .zeros ≤ 125536) × (w .ones + f .ones ≤ 125536)
 few c =
-    let s = c .before .before .before .before .before .before in
+    let s = known (c .before .before .before) in
     let p = s .before .args .p in
     let e = summed c in
     (omega (arith, ap (λ r. r .zeros) e, rank-few (laid s .whole) 0 p), omega (arith, ap (λ r. r .ones) e, rank-few (laid s .whole) 1 p))
@@ -58,8 +62,8 @@ rank-both-spec =
     (λ c κs. (laid (c .before), lit< tt, omega (arith, c .before .before .pre)))
     trytes-require
     whole
-    (λ c κs. (laid (c .before .before .before .before), omega (arith, c .before .before .before .before .before .pre)))
-    (λ c κs. let x = c .before .before .before .before .before .before in (x .pre .1, c .tryte .ensures .low, omega arith))
+    (λ c κs. let s = known (c .before) in (laid s, omega (arith, s .before .pre)))
+    (λ c κs. (known (c .before .before) .before .pre .1, c .tryte .ensures .low, omega arith))
     (λ c. omega (arith, few (c .before .before) .0))
     (λ c. omega (arith, few (c .before .before .before .before) .1))
     (λ c. summed (c .before .before .before .before)))
