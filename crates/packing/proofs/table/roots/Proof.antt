@@ -47,12 +47,9 @@ returns-2 c =
 small : (c : tie.Else2 Inv-loop μ-loop) → c .before .before .word .result < 30016
 small c =
     let w = c .before .before in
-    let x = w .before .before .before .before .before .args in
-    let v : Node (x .n) (w .word .result) = isNode-node (x .n) (w .word .result) (c .before .outside .ensures ∙ ap not (c .if2 .left)) in
-    omega (arith, w .before .before .before .before .before .pre .1)
-
-array-read-marks : tie.Need-array-read-marks Inv-loop μ-loop
-array-read-marks c = omega (arith, small c, c .before .before .before .before .before .loop .inv .words)
+    let x = w .before .before .before .before .before in
+    let v : Node (x .args .n) (w .word .result) = isNode-node (x .args .n) (w .word .result) (c .before .outside .ensures ∙ ap not (c .if2 .left)) in
+    omega (arith, x .pre .1)
 
 returns-3 : tie.Need-returns-3 Inv-loop μ-loop
 returns-3 c =
@@ -61,9 +58,6 @@ returns-3 c =
     let l = w .before .before .before .loop in
     root-twice _ _ (l .p) (l .inv .before) (l .left) (l .left - 1) (omega arith) (omega arith) _ (w .word .ensures .0) (o .before .outside .ensures ∙ ap not (o .if2 .left))
     (marks-old (l .seen) (l .inv .before) (w .word .result) (small o) (l .inv .marks) (λ z. c .if3 .taken (c .before .tested .ensures ∙ z))) ∙ l .inv .rest
-
-array-write-seen : tie.Need-array-write-seen Inv-loop μ-loop
-array-write-seen c = omega (arith, small (c .before .before .before), c .before .before .before .before .before .before .before .before .loop .inv .words)
 
 loop-again : tie.Need-loop-again Inv-loop μ-loop
 loop-again c =
@@ -88,4 +82,24 @@ returns-4 c =
 
 pub roots-spec : {M : Type 1} → statement M
 roots-spec =
-    tie.close (tie.spec Inv-loop μ-loop loop-holds returns (λ c κs. search needs) (λ c κs. search needs) returns-2 (λ c. search needs) array-read-marks (λ c κs. search needs) returns-3 (λ c κs. search needs) (λ c. search needs) array-write-seen (λ c. search needs) (λ c. search needs) (λ c. search needs) loop-again returns-4)
+    tie.close
+    (tie.spec
+    Inv-loop
+    μ-loop
+    loop-holds
+    returns
+    (λ c κs. search needs)
+    (λ c κs. search needs)
+    returns-2
+    (λ c. search needs)
+    (λ c. omega (arith, small c))
+    (λ c κs. search needs)
+    returns-3
+    (λ c κs. search needs)
+    (λ c. search needs)
+    (λ c. omega (arith, small (c .before .before .before)))
+    (λ c. search needs)
+    (λ c. search needs)
+    (λ c. search needs)
+    loop-again
+    returns-4)
