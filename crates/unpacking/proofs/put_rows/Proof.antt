@@ -20,32 +20,35 @@ loop-holds c =
     let o = w .before .before .before .before in
     rows-first (o .pre .0) (o .args .table .now) _ (o .pre .1) (w .put-word .ensures)
 
+-- the call
+abbrev start : tie.At-loop Inv-loop μ-loop → tie.Start Inv-loop μ-loop
+start l = l .before .before .before .before .before .before .before
+
 put-trit-requires : tie.Need-put-trit-requires Inv-loop μ-loop
 put-trit-requires c κs =
     let t = c .before in
     let r = t .before .loop .inv in
-    let x = t .before .before .before .before .before .before .before .before .pre in
-    (record { laid = x .0; is = r .stands; from = r .from; inside = t .loop-test .taken }, omega (arith, filled-length (r .filled)))
+    (record { laid = start (t .before) .pre .0; is = r .stands; from = r .from; inside = t .loop-test .taken }, omega (arith, filled-length (r .filled)))
 
 loop-again : tie.Need-loop-again Inv-loop μ-loop
 loop-again c =
     let w = c .before .before in
     let t = w .before .before in
-    let x = t .before .before .before .before .before .before .before .before .pre in
-    rows-next (x .0) (t .before .loop .inv) (t .loop-test .taken) _ (w .put-trit .ensures .0) _ (w .put-trit .ensures .1)
+    let l = t .before in
+    rows-next (start l .pre .0) (l .loop .inv) (t .loop-test .taken) _ (w .put-trit .ensures .0) _ (w .put-trit .ensures .1)
 
 put-word-requires-2 : tie.Need-put-word-requires-2 Inv-loop μ-loop
 put-word-requires-2 c κs =
-    let t = c .before in
-    omega (arith, sizes (t .before .before .before .before .before .before .before .before .pre .0), filled-length (t .before .loop .inv .filled))
+    let l = c .before .before in
+    omega (arith, sizes (start l .pre .0), filled-length (l .loop .inv .filled))
 
 returns : tie.Need-returns Inv-loop μ-loop
 returns c =
     let w = c .before .before in
     let t = w .before .before in
-    let f = t .before .before .before .before in
-    let o = f .before .before .before .before in
-    w .put-word2 .ensures ∙ rows-last (o .pre .0) (t .before .loop .inv) (o .args .table .now) _ (f .put-word .ensures) (t .loop-test .left)
+    let l = t .before in
+    let x = start l in
+    w .put-word2 .ensures ∙ rows-last (x .pre .0) (l .loop .inv) (x .args .table .now) _ (l .before .before .before .put-word .ensures) (t .loop-test .left)
 
 pub put-rows-spec : {M : Type 1} → statement M
 put-rows-spec =
@@ -60,7 +63,7 @@ put-rows-spec =
     (λ c. omega arith)
     (λ c. omega arith)
     loop-again
-    (λ c. omega (arith, sizes (c .before .before .before .before .before .before .before .before .pre .0)))
+    (λ c. omega (arith, sizes (start (c .before) .pre .0)))
     put-word-requires-2
     (λ c. omega (arith, filled-length (c .before .before .before .before .before .loop .inv .filled)))
     returns)

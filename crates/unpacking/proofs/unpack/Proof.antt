@@ -9,15 +9,19 @@ use Rattle.unpacking.proofs.OutcomeLaws.{unpack-refused, unpack-short, 
 use Rattle.unpacking.proofs.unpack.Statement.{statement}
 use Rattle.unpacking.proofs.unpack.Tie as tie
 
+-- the call
+abbrev start : tie.After-lay → tie.Start
+start c = c .before .before .before .before .before
+
 -- the image is accepted, and this is its layout
-laid : (c : tie.After-lay) → Laid (c .before .before .before .before .before .args .image .now) (c .lay .given .0 .0)
+laid : (c : tie.After-lay) → Laid (start c .args .image .now) (c .lay .given .0 .0)
 laid c =
     let e = c .before .before in
     let x = subst (Examines _ _) (c .lay .given .1) (e .examine .ensures) in
     accepted (e .before .before .shared-slice-known .given) (x .0) (x .1)
 
 returns : tie.Need-returns
-returns c = let o = c .before .before .before .before .before .before .before in unpack-short (laid (c .before .before)) (o .args .table .now) (omega arith)
+returns c = let l = c .before .before in unpack-short (laid l) (start l .args .table .now) (omega arith)
 
 put-table-requires : tie.Need-put-table-requires
 put-table-requires c κs = (laid (c .before .before .before), omega arith)
