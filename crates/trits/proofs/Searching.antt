@@ -28,9 +28,6 @@ rank-order t xs p q h = go (decLe q p)
     go (no l) = omega arith
 
 module _ {t : ℕ} {xs : List ℕ} {j n p e : ℕ} (v : Between t xs j n p e) where
-  pub ordered : p < e
-  ordered = rank-order t xs p e (omega arith)
-
   pub inside : p < length xs
   inside = rank-order t xs p (length xs) (omega (arith, rank-count t xs e, rank-past t xs (length xs) (omega arith)))
 
