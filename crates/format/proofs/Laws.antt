@@ -8,7 +8,7 @@ use mathlib.Core.Bool.{Bool, true, false, _&&_}
 use mathlib.Core.List.{List, [], _∷_, _++_, map, append-assoc}
 use lib.Dec.{T, eqb, leb}
 use lib.ListN.{length, getD, take, drop, length-map, length-take, take-append-drop}
-use lib.Seq.{take-add, take-suc, take-append-le, take-append-add, take-all}
+use lib.Seq.{take-add, take-suc, take-all}
 use borrow.Author.Tests.{eqb-true, eq-eqb, ne-eqb, leb-true, le-leb}
 use Rattle.format.specs.Lists.{bit, run, each, every, consIf, keep, join, same, countIn, Below}
 use Rattle.format.specs.Trits.{rank}
@@ -200,15 +200,6 @@ pub rank-mono : (t : ℕ) (xs : List ℕ) (p q : ℕ) → p ≤ q → rank t xs 
 rank-mono t xs p q h =
     let e : p + (q - p) ≡ q = omega arith in
     subst (λ (k : ℕ). rank t xs p ≤ rank t xs k) e (omega (arith, rank-add t xs p (q - p)))
-
--- rank over an append, before and after the seam
-pub rank-append-le : (t : ℕ) (xs ys : List ℕ) (p : ℕ) → p ≤ length xs → rank t (xs ++ ys) p ≡ rank t xs p
-unfolding rank
-rank-append-le t xs ys p h = ap (countIn t) (take-append-le p xs ys h)
-
-pub rank-append-add : (t : ℕ) (xs ys : List ℕ) (p : ℕ) → rank t (xs ++ ys) (length xs + p) ≡ countIn t xs + rank t ys p
-unfolding rank
-rank-append-add t xs ys p = ap (countIn t) (take-append-add xs ys p) ∙ count-append t xs (take p ys)
 
 pub rank-le : (t : ℕ) (xs : List ℕ) (p : ℕ) → rank t xs p ≤ p
 unfolding rank

@@ -6,11 +6,8 @@ use mathlib.Core.Path.{_≡_, refl, ap₂}
 use mathlib.Core.Logic.{_⊎_, inl, inr}
 use mathlib.Core.Bool.{Bool, true, false}
 use mathlib.Core.List.{List, [], _∷_, List·Memᴰ, List·Memᴰ·head, List·Memᴰ·tail, List·Memᴰ·cases-cons, List·Memᴰ·not-nil}
-use lib.Dec.{eqb}
-use lib.ListN.{length, getD}
+use lib.ListN.{length}
 use Rattle.format.specs.Lists.{run, consIf, keep, RisingFrom}
-use Rattle.format.specs.Trits.{places}
-use Rattle.format.specs.Image.{shadowAt, group}
 
 pub rising-lower : (a b : ℕ) (xs : List ℕ) → b ≤ a → RisingFrom a xs → RisingFrom b xs
 rising-lower a b [] h r = tt
@@ -56,7 +53,7 @@ rising-within a b (x ∷ xs) (y ∷ ys) rx ry w =
         let r = ih2 (λ z m. above z (omega (arith, rising-mem x z (x ∷ xs) (le-refl x, rx .1) m)) (w z m)) in
         (omega (arith, r .0), λ h. absurd (omega (arith, r .0)))
 
--- what a test keeps of a rising list rises; so do the places of a trit, and those of a group
+-- what a test keeps of a rising list rises
 rising-consIf : (b : Bool) (a x : ℕ) (xs : List ℕ) → a ≤ x → RisingFrom (suc x) xs → RisingFrom a (consIf b x xs)
 rising-consIf true a x xs h r = (h, r)
 rising-consIf false a x xs h r = rising-lower (suc x) a xs (omega arith) r
@@ -68,11 +65,3 @@ rising-keep f a (x ∷ xs) r = rising-consIf (f x) a x (keep f xs) (r .0) (risin
 pub rising-run : (a n : ℕ) → RisingFrom a (run a n)
 rising-run a zero = tt
 rising-run a (suc n) = (le-refl a, rising-run (suc a) n)
-
-pub rising-places : (t : ℕ) (xs : List ℕ) → RisingFrom 0 (places t xs)
-unfolding places
-rising-places t xs = rising-keep (λ p. eqb (getD xs p 3) t) 0 (run 0 (length xs)) (rising-run 0 (length xs))
-
-pub rising-group : (trits H : List ℕ) (i : ℕ) → RisingFrom 0 (group trits H i)
-unfolding group
-rising-group trits H i = rising-keep (λ p. eqb (shadowAt trits H p) i) 0 (places 2 trits) (rising-places 2 trits)

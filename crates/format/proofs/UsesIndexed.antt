@@ -3,13 +3,12 @@ use Prim.Native.Nat.{ℕ, zero, suc, _+_, _-_, _≤_, _<_}
 use native.Mathlib.Omega.{arith}
 use native.Mathlib.Numerals.{add-one, sub-one}
 use mathlib.Core.Path.{_≡_, sym, ap, ap₂, _∙_}
-use mathlib.Core.List.{List, [], map}
-use lib.ListN.{length, getD, take, drop, length-append, length-map}
-use lib.Seq.{getD-at}
+use mathlib.Core.List.{List}
+use lib.ListN.{length, getD, take, drop, length-append}
 use borrow.Author.Tests.{lt-ltb}
 use Rattle.format.specs.Lists.{bit, countIn}
 use Rattle.format.specs.Trits.{rank}
-use Rattle.format.specs.Image.{nodeCount, marked, marks, markedNodes, group, grouped, starts}
+use Rattle.format.specs.Image.{nodeCount, marked, marks, group, grouped, starts}
 use Rattle.format.specs.Proper.{ProperTrits}
 use Rattle.format.specs.Table.{AllNodes}
 use Rattle.format.proofs.Laws.{rank-hit}
@@ -37,9 +36,3 @@ pub uses-indexed : (trits H : List ℕ) → ProperTrits trits H → (i : ℕ) �
     group trits H i ≡ take (getD (starts trits H) (j + 1) 0 - getD (starts trits H) j 0) (drop (getD (starts trits H) j 0) (grouped trits H (nodeCount trits)))
 uses-indexed trits H p zero low high pos = absurd (omega arith)
 uses-indexed trits H p (suc k) low high pos = rw sub-one (next-indexed trits H p k high pos)
-
-pub last-start : (trits H : List ℕ) → getD (starts trits H) (length (markedNodes trits H)) 0 ≡ length H
-unfolding starts
-last-start trits H =
-    let f : ℕ → ℕ = λ i. length (grouped trits H (i - 1)) in
-    getD-at (map f (markedNodes trits H)) (length H) [] 0 (length (markedNodes trits H)) (length-map (markedNodes trits H) f)
