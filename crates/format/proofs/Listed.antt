@@ -7,14 +7,14 @@ use mathlib.Core.List.{List, [], _∷_, _++_, map}
 use lib.Dec.{T, ltb, leb, eqb, lit≤}
 use lib.ListN.{length, length-append}
 use borrow.Author.Tests.{leb-true}
-use Rattle.format.specs.Lists.{All, join, oneTo}
+use Rattle.format.specs.Lists.{join, oneTo}
 use Rattle.format.specs.Table.{Graph, nodes, edges, Read, faulty, graph, readTable}
 use Rattle.format.specs.Level.{walk, reached}
 use Rattle.format.specs.Image.{fromBytes, nodeCount, rootCount, edgeCount, image}
 use Rattle.format.specs.Edges.{Edge, operandEdges, useEdges}
 use Rattle.format.specs.Packing.{Accepted}
 use Rattle.format.specs.Listing.{text, decimalIn, decimal, starred, newline, operandText, userText, nodeLine, countLine, listing, refusal, tableText, listingText}
-use Rattle.format.proofs.Laws.{_and_, both-true}
+use Rattle.format.proofs.Laws.{both-true}
 use Rattle.format.proofs.Digits.{length-gather}
 use Rattle.format.proofs.Sizes.{total, length-join-run}
 use Rattle.format.proofs.Sums.{operands-sum, uses-sum}
@@ -53,28 +53,11 @@ joined-few : (f : Edge → List ℕ) → ((e : Edge) → length (f e) ≤ 12) �
 joined-few f h [] = lit≤ tt
 joined-few f h (e ∷ es) = omega (arith, length-append (f e) (join (map f es)), h e, joined-few f h es)
 
-join-six : (a b c d e f : List ℕ) → length (join (a ∷ b ∷ c ∷ d ∷ e ∷ f ∷ [])) ≡ length a + length b + length c + length d + length e + length f
-join-six a b c d e f =
-    omega (
-      arith,
-      length-append a (join (b ∷ c ∷ d ∷ e ∷ f ∷ [])),
-      length-append b (join (c ∷ d ∷ e ∷ f ∷ [])),
-      length-append c (join (d ∷ e ∷ f ∷ [])),
-      length-append d (join (e ∷ f ∷ [])),
-      length-append e (join (f ∷ [])),
-      length-append f [],
-    )
-
 line-few : (trits H : List ℕ) (i : ℕ) → length (nodeLine trits H i) ≤ 14 + 12 * length (operandEdges trits H i) + 12 * length (useEdges trits H i)
 unfolding nodeLine
 line-few trits H i =
-    omega (
-      arith,
-      join-six (decimal i) (text ":") (join (map operandText (operandEdges trits H i))) (text " |") (join (map userText (useEdges trits H i))) newline,
-      decimal-few i,
-      joined-few operandText operand-few (operandEdges trits H i),
-      joined-few userText user-few (useEdges trits H i),
-    )
+    simp length-append
+    (omega (arith, decimal-few i, joined-few operandText operand-few (operandEdges trits H i), joined-few userText user-few (useEdges trits H i)))
 
 lines-few : (trits H : List ℕ) (n : ℕ)
     → total (λ i. length (nodeLine trits H i)) n ≤ 14 * n + 12 * total (λ i. length (operandEdges trits H i)) n + 12 * total (λ i. length (useEdges trits H i)) n
@@ -85,23 +68,12 @@ refusal-few : (c : ℕ) → length (refusal c) ≤ 19
 unfolding refusal
 refusal-few c = omega (arith, length-append (decimal c) newline, decimal-few c)
 
-parts-few : (xss : List (List ℕ)) → All (λ (xs : List ℕ). length xs ≤ 10) xss → length (join xss) ≤ 10 * length xss
-parts-few [] a = lit≤ tt
-parts-few (xs ∷ xss) a = omega (arith, length-append xs (join xss), a .0, parts-few xss (a .1))
-
 counts-few : (trits H : List ℕ) → length (countLine trits H) ≤ 130
 unfolding countLine
 counts-few trits H =
-    parts-few (
-    text "nodes " ∷ decimal (nodeCount trits)
-    ∷ text " edges " ∷ decimal (edgeCount trits)
-    ∷ text " roots " ∷ decimal (rootCount trits)
-    ∷ text " trits " ∷ decimal (length trits)
-    ∷ text " shadows " ∷ decimal (length H)
-    ∷ text " bytes " ∷ decimal (length (image trits H))
-    ∷ newline ∷ [])
-    (lit≤ tt and decimal-few (nodeCount trits) and lit≤ tt and decimal-few (edgeCount trits) and lit≤ tt and decimal-few (rootCount trits) and lit≤ tt
-    and decimal-few (length trits) and lit≤ tt and decimal-few (length H) and lit≤ tt and decimal-few (length (image trits H)) and lit≤ tt and tt)
+    let d = decimal-few in
+    simp length-append
+    (omega (arith, d (nodeCount trits), d (edgeCount trits), d (rootCount trits), d (length trits), d (length H), d (length (image trits H))))
 
 T-of : (b : Bool) → b ≡ true → T b
 T-of true e = tt
