@@ -14,7 +14,7 @@ use Rattle.format.specs.Lists.{run, consIf, keep, Below, countIn, Rising
 use Rattle.format.specs.Trits.{rank, Selected, places}
 use Rattle.format.specs.Image.{shadowAt, group}
 use Rattle.format.specs.Edges.{operandAt, edgeAt, operandEdges, useEdges, isEdge, Edge}
-use Rattle.format.proofs.Laws.{run-add, keep-append, keep-keep, getD-other, rank-here, rank-mono, true-both}
+use Rattle.format.proofs.Laws.{run-add, keep-append, keep-keep, getD-other, rank-here, rank-mono, true-both, last-false}
 use Rattle.format.proofs.Rising.{rising-keep, rising-run}
 
 -- ---- what a test keeps
@@ -79,21 +79,18 @@ useEdges-places trits H i =
     keep-map (λ e. eqb (e .operand) i) (edgeAt trits H) (keep (isEdge trits) (run 0 (length trits)))
     ∙ ap (map (edgeAt trits H)) (keep-keep (λ p. eqb (operandAt trits H p) i) (isEdge trits) (run 0 (length trits)))
 
-and-false : (a b : Bool) → b ≡ false → (a && b) ≡ false
-and-false true b e = e
-and-false false b e = refl
-
 false-and : (a b : Bool) → a ≡ false → (a && b) ≡ false
 false-and a b e = ap (λ (x : Bool). x && b) e
 
 -- ---- operands: between the i-th zero and the next one
 
+-- a place with fewer before it lies before
 pub lt-of-rank : (t : ℕ) (xs : List ℕ) (p q : ℕ) → rank t xs p < rank t xs q → p < q
-lt-of-rank t xs p q h = go (decLe (suc p) q)
+lt-of-rank t xs p q h = go (decLe q p)
   where
-    go : Dec (suc p ≤ q) → p < q
-    go (yes l) = l
-    go (no f) = absurd (omega (arith, rank-mono t xs q p (omega arith)))
+    go : Dec (q ≤ p) → p < q
+    go (yes l) = absurd (omega (arith, rank-mono t xs q p l))
+    go (no l) = omega arith
 
 pos-of-ne : (x : ℕ) → (x ≡ 0 → ⊥) → 0 < x
 pos-of-ne zero h = absurd (h refl)
@@ -111,7 +108,7 @@ operandEdges-run trits H i z z′ pi s s′ =
     let zz : suc z ≤ z′ = lt-of-rank 0 trits z z′ (omega (arith, s .ranked)) in
     operandEdges-places trits H i
     ∙ ap (map (edgeAt trits H)) (keep-run-part f (length trits) (suc z) z′ zz (omega arith)
-    (λ p l. and-false (isEdge trits p) (eqb (rank 0 trits p) i) (ne-eqb (rank 0 trits p) i (λ e. omega (arith, rank-mono 0 trits p z (omega arith), s .ranked))))
+    (λ p l. last-false (isEdge trits p) (eqb (rank 0 trits p) i) (ne-eqb (rank 0 trits p) i (λ e. omega (arith, rank-mono 0 trits p z (omega arith), s .ranked))))
     (λ p l u.
     let lo : rank 0 trits (suc z) ≤ rank 0 trits p = rank-mono 0 trits (suc z) p l in
     let hi : rank 0 trits (suc p) ≤ rank 0 trits z′ = rank-mono 0 trits (suc p) z′ u in
@@ -125,7 +122,7 @@ operandEdges-run trits H i z z′ pi s s′ =
   where
     past : (p : ℕ) → z′ ≤ p → p < length trits → Dec (suc z′ ≤ p) → (isEdge trits p && eqb (rank 0 trits p) i) ≡ false
     past p l u (yes h) =
-        and-false (isEdge trits p) (eqb (rank 0 trits p) i)
+        last-false (isEdge trits p) (eqb (rank 0 trits p) i)
         (ne-eqb (rank 0 trits p) i (λ e. omega (arith, rank-mono 0 trits (suc z′) p h, rank-here 0 trits z′ (s′ .inside) (s′ .holds), s′ .ranked)))
     past p l u (no h) =
         let e : p ≡ z′ = omega arith in
@@ -181,7 +178,7 @@ module _ (trits H : List ℕ) (i r : ℕ) (three : Below 3 trits) (seen : Seen t
 
       go : (x : ℕ) → getD trits p 0 ≡ x → x < 3 → F (getD trits p 0) ≡ G (getD trits p 0)
       go zero e h = ap F e ∙ sym (ap G e)
-      go (suc zero) e h = ap F e ∙ and-false (ltb 0 (rank 0 trits p)) (eqb (rank 1 trits p + 1) i) (not-real p l d e) ∙ sym (ap G e)
+      go (suc zero) e h = ap F e ∙ last-false (ltb 0 (rank 0 trits p)) (eqb (rank 1 trits p + 1) i) (not-real p l d e) ∙ sym (ap G e)
       go (suc (suc zero)) e h =
           ap F e ∙ ap (λ (b : Bool). b && eqb (getD H (rank 2 trits p) 0) i) (lt-ltb 0 (rank 0 trits p) (seen p l e .0)) ∙ sym (ap G e)
       go (suc (suc (suc x))) e h = absurd (omega arith)
@@ -193,7 +190,7 @@ module _ (trits H : List ℕ) (i r : ℕ) (three : Below 3 trits) (seen : Seen t
       go : (b : Bool) → eqb (getD trits p 0) 2 ≡ b → (eqb (getD trits p 0) 2 && eqb (getD H (rank 2 trits p) 0) i) ≡ false
       go false e = false-and (eqb (getD trits p 0) 2) (eqb (getD H (rank 2 trits p) 0) i) e
       go true e =
-          and-false (eqb (getD trits p 0) 2) (eqb (getD H (rank 2 trits p) 0) i)
+          last-false (eqb (getD trits p 0) 2) (eqb (getD H (rank 2 trits p) 0) i)
           (ne-eqb (getD H (rank 2 trits p) 0) i
           (λ q. let inr : r < length trits = sel .inside in omega (arith, seen p (omega arith) (eqb-true (getD trits p 0) 2 e) .1, rank-mono 1 trits p r (omega arith), sel .ranked)))
 

@@ -5,7 +5,7 @@ use native.Mathlib.Omega.{arith}
 use native.Mathlib.Decide.{decLe}
 use mathlib.Core.Path.{_≡_, refl, sym, ap, _∙_, subst}
 use mathlib.Core.Bool.{Bool, true, false, cond}
-use mathlib.Core.List.{List, [], _∷_, map}
+use mathlib.Core.List.{List, [], _∷_, map, map-map}
 use lib.Dec.{eqb, ltb}
 use lib.ListN.{length, getD, length-map, List·getD-eq-default}
 use borrow.Author.Tests.{eqb-true, ltb-true}
@@ -13,7 +13,7 @@ use Rattle.format.specs.Lists.{run, keep, consIf, countIn}
 use Rattle.format.specs.Trits.{rank, places}
 use Rattle.format.specs.Image.{nodeCount, edgeCount, written, image, group, shadowAt}
 use Rattle.format.specs.Proper.{tritsOf, shadowsOf, ProperTrits}
-use Rattle.format.specs.Edges.{Edge, operandAt, edgeAt, edgeList, operandEdges, isEdge, userOf}
+use Rattle.format.specs.Edges.{operandAt, edgeAt, edgeList, operandEdges, isEdge, userOf}
 use Rattle.format.specs.Table.{AllNodes}
 use Rattle.format.proofs.Laws.{both-true, rank-mono, length-run, getD-run, length-keep, rank-here, getD-other, length-keep-key}
 use Rattle.format.proofs.Select.{place-of, length-places}
@@ -83,10 +83,6 @@ operand-node trits H pr p l = go (eqb (getD trits p 0) 1) refl
     go false e = subst (λ (b : Bool). cond b (rank 1 trits p + 1) (getD H (rank 2 trits p) 0) ≤ countIn 1 trits) (sym e) (shadow (rank 2 trits p) (decLe (suc (rank 2 trits p)) (length H)))
 
 -- ---- the edges are m
-
-map-map : (f : Edge → ℕ) (g : ℕ → Edge) (xs : List ℕ) → map f (map g xs) ≡ map (λ x. f (g x)) xs
-map-map f g [] = refl
-map-map f g (x ∷ xs) = ap {B = List ℕ} (λ r. f (g x) ∷ r) (map-map f g xs)
 
 nodes-map : (n : ℕ) (f : ℕ → ℕ) (xs : List ℕ) → Each (λ x. (1 ≤ f x) × (f x ≤ n)) xs → AllNodes n (map f xs)
 nodes-map n f [] h j l = absurd (not-suc-le-zero l)

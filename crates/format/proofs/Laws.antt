@@ -45,6 +45,10 @@ module _ {ℓ} {A : Type ℓ} where
   pub getD-each : (n : ℕ) (f : ℕ → A) (i : ℕ) (d : A) → i < n → getD (each n f) i d ≡ f i
   getD-each n f i d h = getD-map-run f 0 n i d h ∙ ap f (zero-add i)
 
+  pub length-consIf : (b : Bool) (x : A) → length (consIf b x []) ≡ bit b
+  length-consIf true x = refl
+  length-consIf false x = refl
+
   pub keep-append : (f : A → Bool) (xs ys : List A) → keep f (xs ++ ys) ≡ keep f xs ++ keep f ys
   keep-append f [] ys = refl
   keep-append f (x ∷ xs) ys = go (f x) (keep-append f xs ys)

@@ -1,10 +1,10 @@
 -- How long the listing's text can be. Assumes nothing.
 use Prim.Native.Nat.{ℕ, zero, suc, _+_, _*_, _/_, _%_, _≤_, zero-le}
 use native.Mathlib.Omega.{arith}
-use mathlib.Core.Path.{_≡_, refl, sym, ap, _∙_, subst}
+use mathlib.Core.Path.{_≡_, refl, ap, _∙_}
 use mathlib.Core.Bool.{Bool, true, false, _&&_, cond}
 use mathlib.Core.List.{List, [], _∷_, _++_, map}
-use lib.Dec.{T, ltb, leb, eqb, lit≤}
+use lib.Dec.{ltb, leb, eqb, lit≤}
 use lib.ListN.{length, length-append}
 use borrow.Author.Tests.{leb-true}
 use Rattle.format.specs.Lists.{join, oneTo}
@@ -20,7 +20,7 @@ use Rattle.format.proofs.Sizes.{total, length-join-run}
 use Rattle.format.proofs.Sums.{operands-sum, uses-sum}
 use Rattle.format.proofs.Order.{counts}
 use Rattle.format.proofs.Accepting.{reads-as, packable, edge-count, proper-table}
-use Rattle.format.proofs.Outcomes.{length-words}
+use Rattle.format.proofs.Outcomes.{length-words, T-of}
 
 digits-few : (d x : ℕ) → length (decimalIn d x) ≤ d
 digits-few zero x = zero-le
@@ -74,10 +74,6 @@ counts-few trits H =
     let d = decimal-few in
     simp length-append
     (omega (arith, d (nodeCount trits), d (edgeCount trits), d (rootCount trits), d (length trits), d (length H), d (length (image trits H))))
-
-T-of : (b : Bool) → b ≡ true → T b
-T-of true e = tt
-T-of false e = absurd (subst T (sym e) tt)
 
 listed-few : (table : List ℕ) (g : Graph) → Accepted table g → length table ≤ 4000 → length (listing (walk g .trits) (walk g .shadows)) ≤ 100000
 unfolding listing nodeCount

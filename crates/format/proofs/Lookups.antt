@@ -3,7 +3,7 @@ use Prim.Native.Nat.{ℕ, zero, suc, _+_, _-_, _≤_, _<_, zero-le, suc-le-suc}
 use native.Mathlib.Nat.{suc-add, add-suc, le-of-suc-le-suc, not-suc-le-zero}
 use native.Mathlib.Omega.{arith}
 use mathlib.Core.Path.{_≡_, refl, sym, ap, ap₂, _∙_}
-use mathlib.Core.Bool.{Bool, true, false}
+use mathlib.Core.Bool.{Bool}
 use mathlib.Core.Option.{Option, none, some}
 use mathlib.Core.List.{List, [], _∷_, _++_, map}
 use lib.Dec.{ltb}
@@ -15,7 +15,7 @@ use Rattle.format.specs.Lists.{bit, run, consIf, countIn, numbered}
 use Rattle.format.specs.Image.{nodeCount, rootCount, group, grouped}
 use Rattle.format.specs.Proper.{ProperTrits}
 use Rattle.format.specs.Edges.{Edge, edgeAt, operandEdges, useEdges}
-use Rattle.format.proofs.Laws.{length-run, getD-run}
+use Rattle.format.proofs.Laws.{length-run, getD-run, length-consIf}
 use Rattle.format.proofs.Select.{getElem-none}
 use Rattle.format.proofs.Sizes.{length-group}
 use Rattle.format.proofs.ProperLaws.{operands-places, uses-places, operand-count, use-count}
@@ -53,10 +53,6 @@ use-real trits H p i hi li =
     ap (λ (es : List Edge). getElem? es 0) (uses-places trits H p i (omega arith) li
     ∙ ap (λ (b : Bool). map (edgeAt trits H) (consIf b (nth 1 trits i) [] ++ group trits H i)) (lt-ltb (rootCount trits) i hi))
 
-length-real : (b : Bool) (x : ℕ) → length (consIf b x []) ≡ bit b
-length-real true x = refl
-length-real false x = refl
-
 -- then the shadows: entry j of the group, which stands in section 5 from the node's start on
 pub use-shadow : (trits H : List ℕ) → ProperTrits trits H → (i j : ℕ) → i < nodeCount trits → j < countIn (suc i) H
     → numbered (useEdges trits H (suc i)) (suc (bit (ltb (rootCount trits) (suc i)) + j))
@@ -64,7 +60,7 @@ pub use-shadow : (trits H : List ℕ) → ProperTrits trits H → (i j : ℕ) �
 use-shadow trits H p i j li lj =
     let real : List ℕ = consIf (ltb (rootCount trits) (suc i)) (nth 1 trits (suc i)) [] in
     let G : List ℕ = group trits H (suc i) in
-    let len : length real ≡ bit (ltb (rootCount trits) (suc i)) = length-real (ltb (rootCount trits) (suc i)) (nth 1 trits (suc i)) in
+    let len : length real ≡ bit (ltb (rootCount trits) (suc i)) = length-consIf (ltb (rootCount trits) (suc i)) (nth 1 trits (suc i)) in
     let lenG : length G ≡ countIn (suc i) H = length-group trits H (p .paired) (suc i) in
     let all : List ℕ = grouped trits H (nodeCount trits) in
     ap₂ (λ (es : List Edge) (x : ℕ). getElem? es (x + j)) (uses-places trits H p (suc i) (suc-le-suc zero-le) li) (sym len)

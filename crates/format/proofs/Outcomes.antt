@@ -116,7 +116,7 @@ module _ (image buffer : List ℕ) where
 
 -- ---- the words of a table
 
-length-runs : (os : List (List ℕ)) → length (listWords os) ≡ length os + sumOf length os
+pub length-runs : (os : List (List ℕ)) → length (listWords os) ≡ length os + sumOf length os
 unfolding listWords sumOf
 length-runs [] = refl
 length-runs (xs ∷ os) = ap suc (length-append xs (listWords os)) ∙ omega (arith, length-runs os)
@@ -181,7 +181,7 @@ sum-same f g (x ∷ xs) a = ap₂ (λ (x y : ℕ). x + y) (a .0) (sum-same f g x
 
 -- ---- success: the table is accepted, and there is room
 
-T-of : (b : Bool) → b ≡ true → T b
+pub T-of : (b : Bool) → b ≡ true → T b
 T-of true e = tt
 T-of false e = absurd (subst T (sym e) tt)
 

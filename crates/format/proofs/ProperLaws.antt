@@ -4,7 +4,7 @@ use native.Mathlib.Nat.{le-of-suc-le-suc, not-suc-le-zero, le-refl}
 use native.Mathlib.Omega.{arith}
 use native.Mathlib.Numerals.{one-add}
 use mathlib.Core.Path.{_≡_, refl, sym, ap, ap₂, _∙_, subst}
-use mathlib.Core.Bool.{Bool, true, false}
+use mathlib.Core.Bool.{Bool, true}
 use mathlib.Core.Option.{Option}
 use mathlib.Core.List.{List, [], _∷_, _++_, map}
 use lib.Dec.{eqb, leb, ltb}
@@ -15,7 +15,7 @@ use Rattle.format.specs.Trits.{rank, places, select, Selected, nth}
 use Rattle.format.specs.Image.{untilZero, nodeCount, rootCount, group, shadowAt}
 use Rattle.format.specs.Proper.{rootsFirst, balanced, grown, onesBefore, ProperTrits}
 use Rattle.format.specs.Edges.{edgeAt, operandEdges, useEdges}
-use Rattle.format.proofs.Laws.{both-true, count-three, every-run, run-every, length-run}
+use Rattle.format.proofs.Laws.{both-true, count-three, every-run, run-every, length-run, length-consIf}
 use Rattle.format.proofs.Select.{select-at, select-found, place-of}
 use Rattle.format.proofs.Sizes.{length-group}
 use Rattle.format.proofs.CheckLaws.{shadow-seen}
@@ -118,10 +118,6 @@ operand-count trits H p i h l =
     ∙ length-run (suc (nth 0 trits i)) (nth 0 trits (suc i) - suc (nth 0 trits i))
     ∙ omega arith
 
-length-consIf-nil : (b : Bool) (x : ℕ) → length (consIf b x []) ≡ bit b
-length-consIf-nil true x = refl
-length-consIf-nil false x = refl
-
 pub use-count : (trits H : List ℕ) → ProperTrits trits H → (i : ℕ) → 1 ≤ i → i ≤ nodeCount trits
     → length (useEdges trits H i) ≡ bit (ltb (rootCount trits) i) + countIn i H
 use-count trits H p i h l =
@@ -129,7 +125,7 @@ use-count trits H p i h l =
     ap length (uses-places trits H p i h l)
     ∙ length-map (real ++ group trits H i) (edgeAt trits H)
     ∙ length-append real (group trits H i)
-    ∙ ap₂ (λ (x y : ℕ). x + y) (length-consIf-nil (ltb (rootCount trits) i) (nth 1 trits i)) (length-group trits H (p .paired) i)
+    ∙ ap₂ (λ (x y : ℕ). x + y) (length-consIf (ltb (rootCount trits) i) (nth 1 trits i)) (length-group trits H (p .paired) i)
 
 -- ---- "for each i up to the number of ones, at least i ones precede the i-th zero", as a walk over the trits sees it
 

@@ -1,6 +1,5 @@
 -- One operand seen: the buffer holds the walk before, and after. Assumes nothing.
 use mathlib.Core.Path.{_≡_, refl, sym, ap, _∙_, subst}
-use mathlib.Core.Bool.{Bool, true, false}
 use mathlib.Core.List.{List, [], _∷_, _++_}
 use Prim.Native.Nat.{ℕ, zero, suc, _+_, _-_, _*_, _%_, _≤_, _<_}
 use native.Mathlib.Decide.{ℕ-discrete}
@@ -10,11 +9,11 @@ use lib.Dec.{ltb}
 use lib.ListN.{length, getD, set, length-append, length-set, List·getD-append}
 use lib.Seq.{getD-set-same, getD-set-other, getD-at}
 use borrow.Author.Tests.{eq-eqb, ne-eqb}
-use Rattle.format.specs.Lists.{bit, All, oneTo, keep, consIf, numberIn, countIn}
+use Rattle.format.specs.Lists.{bit, All, oneTo, keep, numberIn, countIn}
 use Rattle.format.specs.Table.{Node}
 use Rattle.format.specs.Image.{marked}
 use Rattle.format.specs.Level.{Walk, enter, see, seeAll, close}
-use Rattle.format.proofs.Laws.{run-snoc, keep-append, count-append, count-le}
+use Rattle.format.proofs.Laws.{run-snoc, length-consIf, keep-append, count-append, count-le}
 use Rattle.format.proofs.Places.{all-append, all-imp, all-at, number-new, getD-number, number-getD, number-le, nodup-snoc}
 use Rattle.format.proofs.Walks.{Inv, see-at, inv-see, inv-close}
 use Rattle.format.proofs.Order.{fits-length}
@@ -196,14 +195,10 @@ module _ {n : ℕ} {w : Walk} {tail : ℕ} {work : List ℕ} (h : Held n w tail 
 
 -- ---- h, the count of marked nodes, by one node more
 
-length-one : (b : Bool) (x : ℕ) → length (consIf b x []) ≡ bit b
-length-one true x = refl
-length-one false x = refl
-
 pub marks-next : (H : List ℕ) (i k : ℕ) → k ≡ countIn (suc i) H → length (keep (marked H) (oneTo (i + 1))) ≡ length (keep (marked H) (oneTo i)) + bit (ltb 0 k)
 unfolding marked
 marks-next H i k e =
     ap (λ (j : ℕ). length (keep (marked H) (oneTo j))) (add-one i)
     ∙ ap (λ (l : List ℕ). length (keep (marked H) l)) (run-snoc 1 i ∙ ap (λ (x : ℕ). oneTo i ++ x ∷ []) (one-add i))
     ∙ ap length (keep-append (marked H) (oneTo i) (suc i ∷ [])) ∙ length-append (keep (marked H) (oneTo i)) (keep (marked H) (suc i ∷ []))
-    ∙ ap (λ (m : ℕ). length (keep (marked H) (oneTo i)) + m) (length-one (marked H (suc i)) (suc i) ∙ ap (λ (m : ℕ). bit (ltb 0 m)) (sym e))
+    ∙ ap (λ (m : ℕ). length (keep (marked H) (oneTo i)) + m) (length-consIf (marked H (suc i)) (suc i) ∙ ap (λ (m : ℕ). bit (ltb 0 m)) (sym e))

@@ -22,7 +22,7 @@ use Rattle.format.proofs.Order.{Packable, counts, fits-length}
 use Rattle.format.proofs.Sizes.{imageLength, length-image}
 use Rattle.format.proofs.CheckLaws.{shadow-nodes}
 use Rattle.format.proofs.Accepting.{proper-table}
-use Rattle.format.proofs.Outcomes.{pack-7, pack-8, pack-9, pack-done}
+use Rattle.format.proofs.Outcomes.{length-runs, pack-7, pack-8, pack-9, pack-done}
 use Rattle.samples.specs.Places.{groupEnds}
 use Rattle.samples.proofs.PlaceLaws.{length-ends}
 use Rattle.trits.specs.declared.Layout.{Layout}
@@ -32,7 +32,6 @@ use Rattle.packing.specs.Work.{graphOr, graphOf, Sized, startOf, Kept, W
 use Rattle.packing.specs.Stream.{Walked}
 use Rattle.packing.specs.Packed.{layoutOf, Planned, Measured, Ordered, Uncleared}
 use Rattle.packing.proofs.OverLaws.{over-all, over-behind}
-use Rattle.packing.proofs.ScanLaws.{length-runs}
 use Rattle.packing.proofs.RunLaws.{formed, limits}
 
 -- ---- a table

@@ -9,8 +9,8 @@ use lib.ListN.{length, getD, take, drop, length-append, length-drop, take-append
 use lib.Seq.{take-suc, drop-cons, getD-drop, drop-append-seam, take-append-seam, drop-drop}
 use Rattle.format.specs.Table.{Graph, nodes, operandsOf, Node, counted, listWords, words, WellFormed, WithinLimits}
 use Rattle.format.proofs.Reading.{words-read}
+use Rattle.format.proofs.Outcomes.{length-runs}
 use Rattle.packing.specs.Work.{graphOf, Sized, startOf, runAt}
-use Rattle.packing.proofs.ScanLaws.{length-runs}
 
 -- xs stand in the table, after their count at p
 pub record Run (t : List ℕ) (p : ℕ) (xs : List ℕ) : Type 0 where

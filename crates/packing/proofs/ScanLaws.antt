@@ -9,11 +9,11 @@ use native.Mathlib.Omega.{arith}
 use lib.ListN.{length, getD, drop, length-append, length-drop, drop-of-length-le}
 use lib.Seq.{drop-cons, drop-drop, drop-append-seam}
 use borrow.Author.Tests.{lt-leb, ne-eqb}
-use Rattle.format.specs.Lists.{sumOf, numberIn}
+use Rattle.format.specs.Lists.{numberIn}
 use Rattle.format.specs.Table.{Graph, edges, isNode, listWords, Got, stopped, got, andThen, word, readOperands, readNodes, readRoots, readGraph, wholeTable, readTable, readEnd}
 use Rattle.format.proofs.Laws.{isNode-node}
 use Rattle.format.proofs.Reading.{operand-on, nextLists, count-on, root-on, withRoots, size-on, Holds, Operands, got-operands, Rows, got-nodes, words-read}
-use Rattle.format.proofs.Outcomes.{length-words}
+use Rattle.format.proofs.Outcomes.{length-runs, length-words}
 use Rattle.packing.specs.Sizes.{stepOf, sizesOf, Lists}
 
 -- ---- places
@@ -133,11 +133,6 @@ module _ (n : ℕ) (t : List ℕ) (at : ℕ) (before : List ℕ) where
           (step-made t _ (readRoots n j (before ++ v ∷ []) (drop (at + 1) t)))
 
 -- ---- the whole table
-
-pub length-runs : (os : List (List ℕ)) → length (listWords os) ≡ length os + sumOf length os
-unfolding listWords sumOf
-length-runs [] = refl
-length-runs (vs ∷ os) = omega (arith, length-append vs (listWords os), length-runs os)
 
 module _ (t : List ℕ) where
   pub scan-short : length t ≡ 0 → inr 1 ≡ sizesOf (readTable t)

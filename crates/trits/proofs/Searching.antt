@@ -2,7 +2,6 @@
 use Prim.Native.Nat.{ℕ, _+_, _-_, _*_, _/_, _≤_, _<_}
 use native.Mathlib.Nat.{mul-comm, mul-assoc, mul-add, mul-one, mul-le-mul-left, div-eq-of-lt-le, lt-of-mul-lt-mul-left}
 use native.Mathlib.Omega.{arith}
-use native.Mathlib.Decide.{decLe}
 use mathlib.Core.Path.{_≡_, sym}
 use mathlib.Core.List.{List}
 use lib.ListN.{length}
@@ -10,6 +9,7 @@ use Rattle.format.specs.Lists.{countIn}
 use Rattle.format.specs.Trits.{rank}
 use Rattle.format.specs.Proper.{tritsOf, Whole}
 use Rattle.format.proofs.Laws.{rank-zero, rank-past, rank-mono, rank-count, count-le}
+use Rattle.format.proofs.EdgeLaws.{lt-of-rank}
 use Rattle.trits.specs.declared.Samples.{Samples}
 use Rattle.trits.specs.declared.Spot.{Spot}
 use Rattle.trits.specs.Search.{Sampled, Between, Spotted}
@@ -19,17 +19,9 @@ use Rattle.trits.proofs.Levels.{few, past}
 pub rank-few : {b : List ℕ} → Whole b → (t p : ℕ) → rank t (tritsOf b) p ≤ 125536
 rank-few {b} w t p = omega (arith, rank-count t (tritsOf b) p, count-le t (tritsOf b), few w)
 
--- a place with fewer before it lies before
-rank-order : (t : ℕ) (xs : List ℕ) (p q : ℕ) → rank t xs p < rank t xs q → p < q
-rank-order t xs p q h = go (decLe q p)
-  where
-    go : Dec (q ≤ p) → p < q
-    go (yes l) = absurd (omega (arith, rank-mono t xs q p l))
-    go (no l) = omega arith
-
 module _ {t : ℕ} {xs : List ℕ} {j n p e : ℕ} (v : Between t xs j n p e) where
   pub inside : p < length xs
-  inside = rank-order t xs p (length xs) (omega (arith, rank-count t xs e, rank-past t xs (length xs) (omega arith)))
+  inside = lt-of-rank t xs p (length xs) (omega (arith, rank-count t xs e, rank-past t xs (length xs) (omega arith)))
 
   -- a test at place m
   pub later : {m x : ℕ} → x ≡ rank t xs m → x < j → Between t xs j x m e
