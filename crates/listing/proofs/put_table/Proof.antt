@@ -15,23 +15,26 @@ use Rattle.listing.proofs.TableLaws.{refused-text, Packs, packs}
 use Rattle.listing.proofs.put_table.Statement.{statement}
 use Rattle.listing.proofs.put_table.Tie as tie
 
+-- the call
+abbrev start : tie.After-pack → tie.Start
+start p = p .before .before .before .before .before .before
+
 refused : (c : tie.After-f) → let p = c .before .before .before .before .before in
-    refusal (refusalNumber (c .f .given .0 .0))
-    ≡ tableText (readTable (p .before .before .before .before .before .before .args .table .now))
+    refusal (refusalNumber (c .f .given .0 .0)) ≡ tableText (readTable (start p .args .table .now))
 refused c =
     let p = c .before .before .before .before .before in
-    let x = p .before .before .before .before .before .before in
+    let x = start p in
     let o = p .pack .last .1 in
     refused-text (x .args .table .now) (x .pre .0) _ _ _
     (omega (arith, length-replicate {A = ℕ} 4000 0)) (omega (arith, length-replicate {A = ℕ} 12000 0)) (omega (arith, length-replicate {A = ℕ} 32768 0))
     (c .f .given .0 .0) (p .pack .ensures ∙ ap (λ (r : Packed). packLeaves r (o .0) (o .1 .0) (o .1 .1 .0)) (c .f .given .1))
 
 packed : (c : tie.After-size) → let p = c .before .before .before .before .before in let bytes = p .pack .last .1 .1 .1 .0 in
-    (c .size .given .0 .0 ≤ length bytes) × Packs (p .before .before .before .before .before .before .args .table .now) (take (c .size .given .0 .0) bytes)
+    (c .size .given .0 .0 ≤ length bytes) × Packs (start p .args .table .now) (take (c .size .given .0 .0) bytes)
 packed c =
     let p = c .before .before .before .before .before in
     let o = p .pack .last .1 in
-    packs (p .before .before .before .before .before .before .args .table .now) _ _ _
+    packs (start p .args .table .now) _ _ _
     (p .pack .ensures ∙ ap (λ (r : Packed). packLeaves r (o .0) (o .1 .0) (o .1 .1 .0)) (c .size .given .1))
 
 pub put-table-spec : {M : Type 1} → statement M
@@ -46,7 +49,7 @@ put-table-spec =
     (λ c κs.
     let f = c .before .before in
     let p = f .before .before .before .before .before in
-    subst (Room _ 0) (sym (refused f)) (p .before .before .before .before .before .before .pre .1))
+    subst (Room _ 0) (sym (refused f)) (start p .pre .1))
     (λ c. search needs)
     (λ c. packed (c .before .before) .0)
     (λ c. simp length-take (omega (arith, packed (c .before .before .before) .0)))
@@ -54,7 +57,7 @@ put-table-spec =
     let s = c .before .before .before in
     let p = s .before .before .before .before .before in
     let q = packed s .1 in
-    (q .passes, subst (Room _ 0) (sym (q .text)) (p .before .before .before .before .before .before .pre .1)))
+    (q .passes, subst (Room _ 0) (sym (q .text)) (start p .pre .1)))
     (λ c. search needs)
     (λ c.
     let w = c .before .before in
