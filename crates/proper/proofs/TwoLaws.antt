@@ -1,24 +1,23 @@
 -- The twos before a place, counted tryte by tryte from the nearest sample. Assumes nothing.
-use Prim.Native.Nat.{ℕ, zero, suc, _+_, _-_, _*_, _/_, _%_, _^_, _≤_, _<_}
-use native.Mathlib.Nat.{le-of-suc-le-suc, not-suc-le-zero, mul-zero, mul-one, mul-comm, mul-add, mul-le-mul-left, lt-of-mul-lt-mul-left, mul-div-le, lt-mul-div-succ, div-lt-iff-lt-mul, le-div-iff-mul-le, pow-zero, pow-suc, one-le-pow, mod-one, mod-lt}
+use Prim.Native.Nat.{ℕ, _+_, _-_, _*_, _/_, _%_, _^_, _≤_, _<_}
+use native.Mathlib.Nat.{mul-zero, mul-one, mul-comm, mul-add, mul-le-mul-left, lt-of-mul-lt-mul-left, mul-div-le, lt-mul-div-succ, div-lt-iff-lt-mul, le-div-iff-mul-le, mod-le}
 use native.Mathlib.Decide.{ℕ-discrete}
 use native.Mathlib.Omega.{arith}
-use mathlib.Core.Path.{_≡_, refl, sym, ap, ap₂, _∙_}
+use mathlib.Core.Path.{_≡_, refl, sym, ap, _∙_}
 use mathlib.Core.Bool.{Bool, true, false}
 use mathlib.Core.List.{List}
-use lib.Arith.{mod-mul, digits-div, digits-mod}
-use lib.Dec.{eqb, ltb, lit<}
-use lib.ListN.{length, getD, set, take}
+use lib.Dec.{ltb, lit<}
+use lib.ListN.{length, getD, set}
 use lib.Seq.{getD-set-same, getD-set-other}
 use borrow.Author.Tests.{ltb-true, ltb-false}
-use Rattle.format.specs.Lists.{bit, up, countIn, lowDigits, spread}
+use Rattle.format.specs.Lists.{bit, up, lowDigits, spread}
 use Rattle.format.specs.Trits.{rank, trytes, tryteCount}
-use Rattle.format.proofs.Laws.{rank-zero, rank-count, count-le}
-use Rattle.format.proofs.Digits.{lt-up, spread-gather-at}
+use Rattle.format.proofs.Laws.{rank-zero, rank-count, rank-three, count-le}
+use Rattle.format.proofs.Digits.{below-digits, length-digits, lt-up, spread-gather-at}
 use Rattle.format.proofs.Sizes.{length-trytes}
 use Rattle.format.proofs.ImageReads.{below-gather}
 use Rattle.trits.specs.Search.{Tryte}
-use Rattle.trits.proofs.Trytes.{rank-next}
+use Rattle.trits.proofs.Trytes.{entry-parts, cut-entry, rank-next}
 use Rattle.samples.specs.Lent.{TritsIn}
 use Rattle.proper.specs.Places.{Step, spot, TwosAt}
 
@@ -45,23 +44,16 @@ module _ {trits bs : List ℕ} (T : TritsIn trits bs) where
 
 -- ---- the twos in part of a tryte
 
-no-twos : (w : ℕ) → countIn 2 (lowDigits 3 w 0) ≡ 0
-no-twos zero = refl
-no-twos (suc w) = omega (arith, no-twos w)
-
--- a number cut behind its first r digits has zeros in place of the others
-cut-twos : (w x r : ℕ) → r ≤ w → countIn 2 (lowDigits 3 w (x % 3 ^ r)) ≡ countIn 2 (take r (lowDigits 3 w x))
-cut-twos w x zero h = ap (λ (k : ℕ). countIn 2 (lowDigits 3 w (x % k))) (pow-zero 3) ∙ ap (λ (k : ℕ). countIn 2 (lowDigits 3 w k)) (mod-one x) ∙ no-twos w
-cut-twos zero x (suc r) h = absurd (not-suc-le-zero h)
-cut-twos (suc w) x (suc r) h =
-    let e : x % 3 ^ suc r ≡ (x / 3 % 3 ^ r) * 3 + x % 3 = ap (λ (k : ℕ). x % k) (pow-suc 3 r) ∙ mod-mul x (one-le-pow r 3 (lit< tt)) (lit< tt) in
-    ap (λ (k : ℕ). countIn 2 (lowDigits 3 (suc w) k)) e
-    ∙ ap₂ (λ (a b : ℕ). bit (eqb a 2) + countIn 2 (lowDigits 3 w b)) (digits-mod (x / 3 % 3 ^ r) (mod-lt x (lit< tt))) (digits-div (x / 3 % 3 ^ r) (mod-lt x (lit< tt)))
-    ∙ ap (λ (k : ℕ). bit (eqb (x % 3) 2) + k) (cut-twos w (x / 3) r (le-of-suc-le-suc h))
-
-pub front-twos : (x r : ℕ) → r ≤ 5 → tryteCount 2 (x % 3 ^ r) 5 ≡ tryteCount 2 x r
-unfolding tryteCount
-front-twos x r h = cut-twos 5 x r h
+-- a tryte cut behind its first r trits has zeros in place of the others
+pub front-twos : (x r : ℕ) → x < 243 → r < 5 → tryteCount 2 (x % 3 ^ r) 5 ≡ tryteCount 2 x r
+unfolding tryteCount rank
+front-twos x r l h =
+    omega (
+      arith,
+      entry-parts (x % 3 ^ r) _ (omega (arith, mod-le x (3 ^ r))) refl .twos,
+      cut-entry x r l h,
+      rank-three (lowDigits 3 5 x) (below-digits 3 5 x (lit< tt)) r (omega (arith, length-digits 3 5 x)),
+    )
 
 -- ---- the samples
 

@@ -30,7 +30,7 @@ summed c trits T n l W =
     omega (
       arith,
       whole .twos-whole .ensures trits T n W,
-      c .two-count .ensures .0 ∙ ap (λ (k : ℕ). tryteCount 2 (w .wide .result % k) 5) (c .before .power .ensures .0) ∙ front-twos (w .wide .result) (x .p % 5) (omega arith),
+      c .two-count .ensures .0 ∙ ap (λ (k : ℕ). tryteCount 2 (w .wide .result % k) 5) (c .before .power .ensures .0) ∙ front-twos (w .wide .result) (x .p % 5) (here w trits T (omega arith) .low) (omega arith),
       rw e at (rank-more (here w trits T (omega arith)) 2 (x .p % 5) (omega arith) (omega arith)),
     )
 
