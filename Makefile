@@ -1,4 +1,4 @@
-# `make` runs the main job: it builds the library and the programs, packs the drawn graph of the paper and lists it. `make test` is the gate.
+# `make` runs the main job: it builds the library and the program `list`, packs the drawn graph of the paper and lists it. `make test` is the gate.
 .PHONY: all library command list figures test
 
 CARGO = --offline --quiet --release --manifest-path rust/Cargo.toml --features pack,check,unpack,ask

@@ -165,7 +165,7 @@ fn run(image: &[u8], questions: &[u32], answers: &mut [u32], tally: Tally) -> Ba
             tally,
         },
         Examined::Proper(lay) => {
-            let table = trits::tryte_table();
+            let table = trits::digits::tryte_table();
             let found = ask_all(image, &table, lay, questions, answers);
             let q = questions.len() / 3;
             Batched {

@@ -82,7 +82,7 @@ fn selected(image: &[u8], table: &[u8; 243], lay: Layout, a: usize, b: usize) ->
     if 2 < a {
         return Answer::Refused(Refusal::FirstOutside);
     }
-    let Found::At(p) = trits::select(image, table, lay, a, b) else {
+    let Found::At(p) = trits::search::select(image, table, lay, a, b) else {
         return Answer::Refused(Refusal::SecondOutside);
     };
     value(p)
@@ -93,7 +93,7 @@ fn place(image: &[u8], table: &[u8; 243], lay: Layout, t: usize, j: usize) -> us
     requires { ⌜ (Laid (now image) lay) × (now table ≡ tryteTable) × (t < 3) × (0 < j) × (j ≤ countIn t (tritsOf (now image))) ⌝ }
     ensures { λ r. ⌜ Selected t (tritsOf (now (image .entry))) j r ⌝ }
 {
-    let Found::At(p) = trits::select(image, table, lay, t, j) else {
+    let Found::At(p) = trits::search::select(image, table, lay, t, j) else {
         return 0;
     };
     p

@@ -28,7 +28,7 @@ fn put_listing(text: &mut [u8], image: &[u8]) -> usize
         return 0;
     };
     let end = lines::put_counts(text, image, lay);
-    let table = trits::tryte_table();
+    let table = trits::digits::tryte_table();
     lines::put_nodes(text, end, image, &table, lay)
 }
 

@@ -100,7 +100,7 @@ fn put_samples(image: &mut [u8], lay: trits::Layout)
     ensures { λ _. ⌜ ((trits H : List ℕ) → Started trits H lay (now (image .entry))
         → now (image .exit) ≡ putAt (now (image .entry)) (lay .at6 - 4) (written (section6 trits H ∷ section7 trits H ∷ section8 trits H ∷ []))) ⌝ }
 {
-    let table = trits::tryte_table();
+    let table = trits::digits::tryte_table();
     let at6 = lay.at6;
     put_level(image, lay, &table, 65725, 2, 4, at6);
     let at7 = lay.at7;

@@ -205,7 +205,7 @@ fn from5(
         let n = lay.nodes;
         return before5(hs, firsts, n, f);
     }
-    let table = trits::tryte_table();
+    let table = trits::digits::tryte_table();
     let l = lay.trits;
     let n = lay.nodes;
     let right = crate::ordered::both_right(bs, hs, &table, firsts, contents(rest, size), l, n);

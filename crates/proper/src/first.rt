@@ -3,8 +3,8 @@ use format::MAX_EDGES;
 use format::MAX_NODES;
 use format::Refusal;
 use little::wide;
-use trits::trit;
-use trits::tryte_count;
+use trits::digits::trit;
+use trits::digits::tryte_count;
 ghost use mathlib.Core.Path.{_≡_};
 ghost use mathlib.Core.Bool.{true};
 ghost use Prim.Native.Nat.{_+_, _≤_, _<_};
@@ -176,7 +176,7 @@ pub fn section1(bs: &[u8], l: usize) -> First
     let Given::Number(roots) = roots_given(bs, l) else {
         return First::Wrong(Refusal::TritsWrong);
     };
-    let table = trits::tryte_table();
+    let table = trits::digits::tryte_table();
     let Given::Number(nodes) = nodes_given(bs, &table, l) else {
         return First::Wrong(Refusal::TritsWrong);
     };

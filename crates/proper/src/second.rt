@@ -1,7 +1,7 @@
 // Section 2 of an image: its entries against the trits.
 use crate::first::one_if;
 use little::get2;
-use trits::trit;
+use trits::digits::trit;
 ghost use mathlib.Core.Path.{_≡_};
 ghost use mathlib.Core.List.{List};
 ghost use Prim.Native.Nat.{ℕ, _+_, _*_, _≤_};

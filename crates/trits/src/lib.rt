@@ -1,7 +1,12 @@
-// Trits, rank and select on a proper image: three levels of samples, then trytes, then trits.
+// The layout of a proper image, and rank on it: three levels of samples, then trytes, then trits.
 // A tryte is five trits in a byte; a block is 25 trits, five trytes.
+pub mod digits;
+pub mod search;
+
+use crate::digits::power;
+use crate::digits::tryte_count;
+use crate::digits::tryte_front;
 use format::FAR;
-use format::Found;
 use format::MIDDLE;
 use format::NEAR;
 use little::get1;
@@ -9,262 +14,13 @@ use little::get2;
 use little::get4;
 use little::wide;
 ghost use mathlib.Core.Path.{_≡_};
-ghost use Prim.Native.Nat.{_+_, _*_, _/_, _%_, _^_, _≤_, _<_};
+ghost use Prim.Native.Nat.{_+_, _*_, _/_, _%_, _≤_, _<_};
 ghost use lib.ListN.{length, getD};
-ghost use Rattle.format.specs.Lists.{countIn, spread};
-ghost use Rattle.format.specs.Trits.{rank, select, tryteCount, tryteTable, Selected};
+ghost use Rattle.format.specs.Trits.{rank, tryteTable};
 ghost use Rattle.format.specs.Proper.{checkImage, tritsOf};
-ghost use Rattle.format.specs.Answers.{foundPlace};
 ghost use Rattle.format.specs.Image.{read};
-ghost use Rattle.trits.specs.Layout.{layout, layoutOf, Laid, farOf, middleOf, nearOf, totalOf};
-ghost use Rattle.trits.specs.Search.{Sampled, Tryte, Spotted, PlaceIn, ranksOf, frontOf};
-
-// Zeros + 8 · ones of the five trits of every tryte.
-const TABLE: [u8; 243] = [
-    5,
-    12,
-    4,
-    12,
-    19,
-    11,
-    4,
-    11,
-    3,
-    12,
-    19,
-    11,
-    19,
-    26,
-    18,
-    11,
-    18,
-    10,
-    4,
-    11,
-    3,
-    11,
-    18,
-    10,
-    3,
-    10,
-    2,
-    12,
-    19,
-    11,
-    19,
-    26,
-    18,
-    11,
-    18,
-    10,
-    19,
-    26,
-    18,
-    26,
-    33,
-    25,
-    18,
-    25,
-    17,
-    11,
-    18,
-    10,
-    18,
-    25,
-    17,
-    10,
-    17,
-    9,
-    4,
-    11,
-    3,
-    11,
-    18,
-    10,
-    3,
-    10,
-    2,
-    11,
-    18,
-    10,
-    18,
-    25,
-    17,
-    10,
-    17,
-    9,
-    3,
-    10,
-    2,
-    10,
-    17,
-    9,
-    2,
-    9,
-    1,
-    12,
-    19,
-    11,
-    19,
-    26,
-    18,
-    11,
-    18,
-    10,
-    19,
-    26,
-    18,
-    26,
-    33,
-    25,
-    18,
-    25,
-    17,
-    11,
-    18,
-    10,
-    18,
-    25,
-    17,
-    10,
-    17,
-    9,
-    19,
-    26,
-    18,
-    26,
-    33,
-    25,
-    18,
-    25,
-    17,
-    26,
-    33,
-    25,
-    33,
-    40,
-    32,
-    25,
-    32,
-    24,
-    18,
-    25,
-    17,
-    25,
-    32,
-    24,
-    17,
-    24,
-    16,
-    11,
-    18,
-    10,
-    18,
-    25,
-    17,
-    10,
-    17,
-    9,
-    18,
-    25,
-    17,
-    25,
-    32,
-    24,
-    17,
-    24,
-    16,
-    10,
-    17,
-    9,
-    17,
-    24,
-    16,
-    9,
-    16,
-    8,
-    4,
-    11,
-    3,
-    11,
-    18,
-    10,
-    3,
-    10,
-    2,
-    11,
-    18,
-    10,
-    18,
-    25,
-    17,
-    10,
-    17,
-    9,
-    3,
-    10,
-    2,
-    10,
-    17,
-    9,
-    2,
-    9,
-    1,
-    11,
-    18,
-    10,
-    18,
-    25,
-    17,
-    10,
-    17,
-    9,
-    18,
-    25,
-    17,
-    25,
-    32,
-    24,
-    17,
-    24,
-    16,
-    10,
-    17,
-    9,
-    17,
-    24,
-    16,
-    9,
-    16,
-    8,
-    3,
-    10,
-    2,
-    10,
-    17,
-    9,
-    2,
-    9,
-    1,
-    10,
-    17,
-    9,
-    17,
-    24,
-    16,
-    9,
-    16,
-    8,
-    2,
-    9,
-    1,
-    9,
-    16,
-    8,
-    1,
-    8,
-    0,
-];
+ghost use Rattle.trits.specs.Layout.{layout, layoutOf, Laid, farOf, middleOf, nearOf};
+ghost use Rattle.trits.specs.Search.{Sampled, Tryte, Spotted, ranksOf};
 
 // L, n, c, k and h, and where the contents of each section start.
 pub struct Layout {
@@ -286,12 +42,12 @@ pub struct Layout {
 
 // A level of samples: pairs, zeros then ones, of `width` bytes a number from byte `at` on, before multiples 0 to `last` of `step`, each counted
 // from the last multiple of `fan` steps.
-struct Samples {
-    at: usize,
-    width: usize,
-    step: usize,
-    fan: usize,
-    last: usize,
+pub struct Samples {
+    pub at: usize,
+    pub width: usize,
+    pub step: usize,
+    pub fan: usize,
+    pub last: usize,
 }
 
 // The zeros and ones before a place, or in part of a tryte.
@@ -301,9 +57,9 @@ pub struct Ranks {
 }
 
 // Multiple `at` of a step, and how many of a trit stand before it.
-struct Spot {
-    at: usize,
-    before: usize,
+pub struct Spot {
+    pub at: usize,
+    pub before: usize,
 }
 
 // The layout of an image with so many trits, nodes, roots, shadows and marked nodes.
@@ -338,17 +94,10 @@ pub fn lay_out(trits: usize, nodes: usize, roots: usize, shadows: usize, marked:
     }
 }
 
-// The table, for a caller to bind once and lend.
-pub fn tryte_table() -> [u8; 243]
-    ensures { λ r. ⌜ r ≡ tryteTable ⌝ }
-{
-    TABLE
-}
-
-// ---- one tryte
+// ---- one tryte of an image
 
 // Tryte `q` of section 1.
-fn tryte(image: &[u8], lay: Layout, q: usize) -> usize
+pub fn tryte(image: &[u8], lay: Layout, q: usize) -> usize
     requires { ⌜ (Laid (now image) lay) × (5 * q < length (tritsOf (now image))) ⌝ }
     ensures { λ r. ⌜ Tryte (tritsOf (now (image .entry))) q r ⌝ }
 {
@@ -357,76 +106,10 @@ fn tryte(image: &[u8], lay: Layout, q: usize) -> usize
     wide(image[at])
 }
 
-// Trit `r` of tryte `x`.
-fn digit(x: usize, r: usize) -> usize
-    requires { ⌜ r < 5 ⌝ }
-    ensures { λ d. ⌜ d ≡ x / 3 ^ r % 3 ⌝ }
-{
-    match r {
-        0 => x % 3,
-        1 => x / 3 % 3,
-        2 => x / 9 % 3,
-        3 => x / 27 % 3,
-        _ => x / 81 % 3,
-    }
-}
-
-// Trit `p` of trytes, before they are known to be an image's.
-pub fn trit(trytes: &[u8], p: usize) -> usize
-    requires { ⌜ p < 5 * length (now trytes) ⌝ }
-    ensures { λ r. ⌜ (r ≡ getD (spread 3 5 (now (trytes .entry))) p 0) × (r < 3) ⌝ }
-{
-    let q = p / 5;
-    let x = wide(trytes[q]);
-    digit(x, p % 5)
-}
-
-// How often `t` stands in tryte `x`, by the table.
-pub fn tryte_count(table: &[u8; 243], x: usize, t: usize) -> usize
-    requires { ⌜ (now table ≡ tryteTable) × (x < 243) × (t < 3) ⌝ }
-    ensures { λ r. ⌜ (r ≡ tryteCount t x 5) × (r ≤ 5) ⌝ }
-{
-    let e = wide(table[x]);
-    if t == 0 {
-        return e % 8;
-    }
-    if t == 1 {
-        return e / 8;
-    }
-    5 - e % 8 - e / 8
-}
-
-// 3 to the power `r`.
-pub fn power(r: usize) -> usize
-    requires { ⌜ r < 5 ⌝ }
-    ensures { λ w. ⌜ (w ≡ 3 ^ r) × (0 < w) ⌝ }
-{
-    match r {
-        0 => 1,
-        1 => 3,
-        2 => 9,
-        3 => 27,
-        _ => 81,
-    }
-}
-
-// The zeros and ones of the first `r` trits of tryte `x`: the tryte cut behind them has zeros in place of the others.
-fn tryte_front(table: &[u8; 243], x: usize, r: usize) -> Ranks
-    requires { ⌜ (now table ≡ tryteTable) × (x < 243) × (r < 5) ⌝ }
-    ensures { λ n. ⌜ n ≡ frontOf x r ⌝ }
-{
-    let cut = x % power(r);
-    let e = wide(table[cut]);
-    Ranks {
-        zeros: e % 8 - (5 - r),
-        ones: e / 8,
-    }
-}
-
 // ---- one level of samples
 
 // Section 6; two steps pass the end of any image.
-fn far(lay: Layout) -> Samples
+pub fn far(lay: Layout) -> Samples
     ensures { λ r. ⌜ r ≡ farOf lay ⌝ }
 {
     let at = lay.at6;
@@ -442,7 +125,7 @@ fn far(lay: Layout) -> Samples
 }
 
 // Section 7.
-fn middle(lay: Layout) -> Samples
+pub fn middle(lay: Layout) -> Samples
     ensures { λ r. ⌜ r ≡ middleOf lay ⌝ }
 {
     let at = lay.at7;
@@ -458,7 +141,7 @@ fn middle(lay: Layout) -> Samples
 }
 
 // Section 8.
-fn near(lay: Layout) -> Samples
+pub fn near(lay: Layout) -> Samples
     ensures { λ r. ⌜ r ≡ nearOf lay ⌝ }
 {
     let at = lay.at8;
@@ -511,7 +194,7 @@ fn counted(image: &[u8], s: Samples, t: usize, first: usize, q: usize) -> usize
 }
 
 // The spot of the `t` number `j` at a level's step, from its spot at the step of the level above: by halving.
-fn halve(image: &[u8], s: Samples, t: usize, j: usize, above: Spot) -> Spot
+pub fn halve(image: &[u8], s: Samples, t: usize, j: usize, above: Spot) -> Spot
     requires { ⌜ (Sampled (now image) s) × (t < 3) × (Spotted (s .fan * s .step) t (tritsOf (now image)) j above) ⌝ }
     ensures { λ r. ⌜ Spotted (s .step) t (tritsOf (now (image .entry))) j r ⌝ }
 {
@@ -558,7 +241,7 @@ fn rank_block(image: &[u8], lay: Layout, t: usize, g: usize) -> usize
 }
 
 // The last of the five trytes from `first` on, or the last that there is.
-fn last_tryte(trits: usize, first: usize) -> usize
+pub fn last_tryte(trits: usize, first: usize) -> usize
     requires { ⌜ (5 * first < trits) × (trits ≤ 125536) ⌝ }
     ensures { λ r. ⌜ (first ≤ r) × (r ≤ first + 4) × (5 * r < trits) × (r < first + 4 → trits ≤ 5 * (r + 1)) ⌝ }
 {
@@ -653,96 +336,4 @@ pub fn trit_at(image: &[u8], lay: Layout, p: usize) -> usize
     let x = tryte(image, lay, q);
     let w = power(p % 5);
     x / w % 3
-}
-
-// ---- select
-
-// How many `t` there are.
-fn total(lay: Layout, t: usize) -> usize
-    requires { ⌜ (lay .nodes ≤ 30000) × (t < 3) ⌝ }
-    ensures { λ r. ⌜ r ≡ totalOf lay t ⌝ }
-{
-    let nodes = lay.nodes;
-    if t == 0 {
-        return nodes + 1;
-    }
-    if t == 1 {
-        return nodes;
-    }
-    lay.shadows
-}
-
-// The tryte in which the `t` number `j` stands, from its block: four are counted, found or not, so that no branch is to be guessed.
-fn find_tryte(image: &[u8], table: &[u8; 243], lay: Layout, t: usize, j: usize, s: Spot) -> Spot
-    requires { ⌜ (Laid (now image) lay) × (now table ≡ tryteTable) × (t < 3) × (Spotted 25 t (tritsOf (now image)) j s) ⌝ }
-    ensures { λ r. ⌜ Spotted 5 t (tritsOf (now (image .entry))) j r ⌝ }
-{
-    let block = s.at;
-    let trits = lay.trits;
-    let first = 5 * block;
-    let last = last_tryte(trits, first);
-    let mut at = first;
-    let mut before = s.before;
-    let mut n = before;
-    let mut q = first;
-    while q < last {
-        let x = tryte(image, lay, q);
-        n += tryte_count(table, x, t);
-        q += 1;
-        if n < j {
-            at = q;
-            before = n;
-        }
-    }
-    Spot { at, before }
-}
-
-// The place of the `t` number `k` in tryte `x`: how many of its trits, but the last, have fewer than `k` up to themselves.
-fn place_in(x: usize, t: usize, k: usize) -> usize
-    requires { ⌜ (x < 243) × (t < 3) × (0 < k) × (k ≤ tryteCount t x 5) ⌝ }
-    ensures { λ r. ⌜ PlaceIn x t k r ⌝ }
-{
-    let a = (x % 3 == t) as usize;
-    let b = a + (x / 3 % 3 == t) as usize;
-    let c = b + (x / 9 % 3 == t) as usize;
-    let d = c + (x / 27 % 3 == t) as usize;
-    (a < k) as usize + (b < k) as usize + (c < k) as usize + (d < k) as usize
-}
-
-// The place of the `t` number `j`, from its tryte.
-fn find_trit(image: &[u8], lay: Layout, t: usize, j: usize, s: Spot) -> usize
-    requires { ⌜ (Laid (now image) lay) × (t < 3) × (Spotted 5 t (tritsOf (now image)) j s) ⌝ }
-    ensures { λ r. ⌜ Selected t (tritsOf (now (image .entry))) j r ⌝ }
-{
-    let q = s.at;
-    let before = s.before;
-    let x = tryte(image, lay, q);
-    5 * q + place_in(x, t, j - before)
-}
-
-// The place of the `t` number `j`, where there is one: through the levels to its block, its tryte and itself.
-fn find(image: &[u8], table: &[u8; 243], lay: Layout, t: usize, j: usize) -> usize
-    requires { ⌜ (Laid (now image) lay) × (now table ≡ tryteTable) × (t < 3) × (0 < j) × (j ≤ countIn t (tritsOf (now image))) ⌝ }
-    ensures { λ r. ⌜ Selected t (tritsOf (now (image .entry))) j r ⌝ }
-{
-    let all = Spot { at: 0, before: 0 };
-    let six = halve(image, far(lay), t, j, all);
-    let seven = halve(image, middle(lay), t, j, six);
-    let eight = halve(image, near(lay), t, j, seven);
-    let tryte = find_tryte(image, table, lay, t, j, eight);
-    find_trit(image, lay, t, j, tryte)
-}
-
-// The place of the `t` number `j`; nothing where `j` is 0 or more than there are.
-pub fn select(image: &[u8], table: &[u8; 243], lay: Layout, t: usize, j: usize) -> Found
-    requires { ⌜ (checkImage (now image) ≡ 0) × (now table ≡ tryteTable) × (lay ≡ layoutOf (now image)) × (t < 3) ⌝ }
-    ensures { λ r. ⌜ foundPlace r ≡ select t (tritsOf (now (image .entry))) j ⌝ }
-{
-    if j == 0 {
-        return Found::Nothing;
-    }
-    if total(lay, t) < j {
-        return Found::Nothing;
-    }
-    Found::At(find(image, table, lay, t, j))
 }

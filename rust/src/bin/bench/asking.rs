@@ -1,5 +1,5 @@
 //! glouds_ask beside ordinary lists that answer the same questions into the
-//! same words. Kind 4 is order 14's: 20,000 nodes, 22,000 edges, 100,000
+//! same words. Kind 4 is the buyer's order 14: 20,000 nodes, 22,000 edges, 100,000
 //! questions in one batch, the check of the image counted in.
 
 use crate::packing;
@@ -189,7 +189,7 @@ fn measure(image: &[u8], opened: &Opened, lists: &Lists, kind: u32) -> [Times; 2
     times
 }
 
-/// The graph of order 14, from one root.
+/// The graph of the buyer's order 14, from one root.
 fn graph() -> Graph {
     make::random(NODES, EDGES, 1, &mut Xorshift::new(29))
 }
@@ -203,7 +203,7 @@ pub fn run() {
     println!();
     println!("A batch of questions on {NODES} nodes and {EDGES} edges, the check of the image");
     println!("counted in, beside growable lists with the answers in them: nanoseconds a");
-    println!("question. Kind 4 beside child lists is order 14's figure.");
+    println!("question. Kind 4 beside child lists is the buyer's order 14.");
     times::heading(["kind", "asked"], ["ask med", "lists med"]);
     for (kind, name) in [
         (4, "4 operand"),
