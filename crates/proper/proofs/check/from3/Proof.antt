@@ -25,30 +25,38 @@ use Rattle.proper.proofs.check.from3.Tie as tie
 few : (c : tie.Start) → c .args .n ≤ 30000
 few c = let p = c .pre in omega (arith, p .3 .nodes-are, limits-nodes (p .0) (p .2 .shadowed .proper .in-limits))
 
+-- the call
+abbrev start : tie.After-opened → tie.Start
+start o = o .before .before .before .before
+
+-- the call, from the test of section 3
+abbrev start3 : tie.After-marks-right → tie.Start
+start3 r = start (r .before .before .before .before)
+
 returns : tie.Need-returns
 unfolding given
 returns c =
     let opened = c .before .before .before in
-    let b = opened .before .before .before .before .args .rest .now in
+    let b = start opened .args .rest .now in
     let f = c .before .f .given .0 .0 in
     λ trits H K S.
     sym (first-refused (section3 trits H) (givenFrom 1 trits H) b f
     (given-refused (front3 trits H (S .nodes-are)) b f (sym (ap checkedNumber (c .before .f .given .1)) ∙ opened .opened .ensures)))
 
 -- the front is open
-front : (c : tie.After-enum-told) → let x = c .before .before .before .before .before .before .args in 0 ≡ opens 25 (x .n) (8 * up (x .n) 64) (x .rest .now)
+front : (c : tie.After-enum-told) → let x = start (c .before .before) .args in 0 ≡ opens 25 (x .n) (8 * up (x .n) 64) (x .rest .now)
 front c = sym (ap checkedNumber (c .enum-told .given .1)) ∙ c .before .before .opened .ensures
 
-room : (c : tie.After-enum-told) → let x = c .before .before .before .before .before .before .args in 4 + 8 * up (x .n) 64 ≤ length (x .rest .now)
-room c = let x = c .before .before .before .before .before .before .args in opens-room 25 (x .n) (8 * up (x .n) 64) (x .rest .now) (sym (front c))
+room : (c : tie.After-enum-told) → let x = start (c .before .before) .args in 4 + 8 * up (x .n) 64 ≤ length (x .rest .now)
+room c = let x = start (c .before .before) .args in opens-room 25 (x .n) (8 * up (x .n) 64) (x .rest .now) (sym (front c))
 
 marks-right-requires : tie.Need-marks-right-requires
 marks-right-requires c κs =
-    let p = c .before .before .before .before .before .before .before .pre in
+    let p = start (c .before .before .before) .pre in
     (p .0, p .1, p .2 .shadowed, p .3 .nodes-are, c .contents .ensures .1)
 
 -- what section 3 gives
-gives : (c : tie.After-marks-right) → let x = c .before .before .before .before .before .before .before .before .args in (trits H : List ℕ)
+gives : (c : tie.After-marks-right) → let x = start3 c .args in (trits H : List ℕ)
     → Known trits H (x .bs .now) (x .hs .now) → Sized trits (x .l) (x .n) (x .c) (x .k) → fault 25 (c .marks-right .result) ≡ givenFault (section3 trits H) (x .rest .now)
 unfolding section3
 gives c trits H K S =
@@ -56,20 +64,20 @@ gives c trits H K S =
     (c .marks-right .ensures trits H (K .shadowed) (S .nodes-are) ∙ ap (λ (l : List ℕ). same l (bytes 8 (markWords trits H))) (c .before .contents .ensures .0))
 
 -- section 3 holds the marks
-marked : (c : tie.After-marks-right) → c .marks-right .result ≡ true → let x = c .before .before .before .before .before .before .before .before .args in (trits H : List ℕ)
+marked : (c : tie.After-marks-right) → c .marks-right .result ≡ true → let x = start3 c .args in (trits H : List ℕ)
     → Known trits H (x .bs .now) (x .hs .now) → Sized trits (x .l) (x .n) (x .c) (x .k) → Marked trits H (c .before .contents .result .now)
 marked c t trits H K S =
     record { proper = K .shadowed .proper; marks-are = same-eq _ _ (sym (c .marks-right .ensures trits H (K .shadowed) (S .nodes-are)) ∙ t) }
 
 count-marks-requires : tie.Need-count-marks-requires
 count-marks-requires c κs =
-    let p = c .before .before .before .before .before .before .before .before .before .pre in
+    let p = start3 (c .before) .pre in
     (p .0, p .1, marked (c .before) (c .if1 .taken) (p .0) (p .1) (p .2) (p .3))
 
 lay-out-requires : tie.Need-lay-out-requires
 lay-out-requires c κs =
     let test = c .before .before in
-    let s = test .before .before .before .before .before .before .before .before in
+    let s = start3 test in
     let p = s .pre in
     let h = c .count-marks .ensures (p .0) (p .1) (marked test (c .before .if1 .taken) (p .0) (p .1) (p .2) (p .3)) in
     let P = p .2 .shadowed .proper in (
@@ -80,7 +88,7 @@ lay-out-requires c κs =
     )
 
 -- sections 1, 2 and 3 have passed
-through : (c : tie.After-lay-out) → let x = c .before .before .before .before .before .before .before .before .before .before .before .args in (trits H : List ℕ)
+through : (c : tie.After-lay-out) → let x = start3 (c .before .before .before) .args in (trits H : List ℕ)
     → Known trits H (x .bs .now) (x .hs .now) → Sized trits (x .l) (x .n) (x .c) (x .k) → Through trits H (x .bs .now) (x .hs .now) (c .before .before .before .before .contents .result .now) (c .lay-out .result)
 through c trits H K S =
     let test = c .before .before .before in
@@ -130,7 +138,7 @@ from3-spec =
     count-marks-requires
     lay-out-requires
     (λ c κs. room (c .before .before .before .before .before))
-    (λ c κs. let p = c .before .before .before .before .before .before .before .before .before .before .before .before .pre in (p .0, p .1, through (c .before) (p .0) (p .1) (p .2) (p .3)))
+    (λ c κs. let p = start3 (c .before .before .before .before) .pre in (p .0, p .1, through (c .before) (p .0) (p .1) (p .2) (p .3)))
     (λ c. search needs)
     (λ c. search needs)
     returns-2

@@ -17,22 +17,26 @@ use Rattle.proper.proofs.check.from4.Tie as tie
 few : (c : tie.Start) → c .args .lay .marked ≤ 30000
 few c = let p = c .pre in omega (arith, counted-marked (counted (p .2)), marked-few (p .0) (p .1), limits-nodes (p .0) (p .2 .marked .proper .in-limits))
 
+-- the call
+abbrev start : tie.After-opened → tie.Start
+start o = o .before .before .before .before .before .before
+
 returns : tie.Need-returns
 unfolding given
 returns c =
     let opened = c .before .before .before in
-    let b = opened .before .before .before .before .before .before .args .rest .now in
+    let b = start opened .args .rest .now in
     let f = c .before .f .given .0 .0 in
     λ trits H T.
     first-refused (section4 trits H) (givenFrom 2 trits H) b f
     (given-refused (front4 trits H (counted-marked (counted T))) b f (sym (ap checkedNumber (c .before .f .given .1)) ∙ opened .opened .ensures))
 
 -- the front is open
-front : (c : tie.After-enum-told) → let x = c .before .before .before .before .before .before .before .before .args in let n = x .lay .marked + 1 in 0 ≡ opens 25 n (4 * n) (x .rest .now)
+front : (c : tie.After-enum-told) → let x = start (c .before .before) .args in let n = x .lay .marked + 1 in 0 ≡ opens 25 n (4 * n) (x .rest .now)
 front c = sym (ap checkedNumber (c .enum-told .given .1)) ∙ c .before .before .opened .ensures
 
-room : (c : tie.After-enum-told) → let x = c .before .before .before .before .before .before .before .before .args in 4 + 4 * (x .lay .marked + 1) ≤ length (x .rest .now)
-room c = let x = c .before .before .before .before .before .before .before .before .args in let n = x .lay .marked + 1 in opens-room 25 n (4 * n) (x .rest .now) (sym (front c))
+room : (c : tie.After-enum-told) → let x = start (c .before .before) .args in 4 + 4 * (x .lay .marked + 1) ≤ length (x .rest .now)
+room c = let x = start (c .before .before) .args in let n = x .lay .marked + 1 in opens-room 25 n (4 * n) (x .rest .now) (sym (front c))
 
 returns-2 : tie.Need-returns-2
 unfolding given section4
@@ -54,5 +58,5 @@ from4-spec =
     (λ c. search needs)
     (λ c κs. room c)
     (λ c κs. room (c .before))
-    (λ c κs. (c .before .contents .ensures .1, c .before .before .before .before .before .before .before .before .before .before .pre))
+    (λ c κs. let cut = c .before in (cut .contents .ensures .1, start (cut .before .before .before) .pre))
     returns-2)

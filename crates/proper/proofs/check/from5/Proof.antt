@@ -20,9 +20,13 @@ use Rattle.proper.proofs.check.from5.Tie as tie
 few : (c : tie.Start) → c .args .lay .shadows ≤ 65535
 few c = let T = c .pre .1 .2 in omega (arith, counted-shadows (counted T), T .known .shadowed .few)
 
+-- the call
+abbrev start : tie.After-opened → tie.Start
+start o = o .before .before .before .before .before .before
+
 before5-requires : tie.Need-before5-requires
 before5-requires c κs =
-    let p = c .before .before .before .before .before .before .before .before .before .pre in
+    let p = start (c .before .before .before) .pre in
     let t = p .1 in
     let C = counted (t .2) in
     (t .0, t .1, t .2 .known .shadowed, sym (counted-nodes C), p .0 ∙ ap (λ (k : ℕ). 4 * (k + 1)) (sym (counted-marked C)))
@@ -31,7 +35,7 @@ returns : tie.Need-returns
 unfolding given
 returns c =
     let opened = c .before .before .before .before in
-    let x = opened .before .before .before .before .before .before .args in
+    let x = start opened .args in
     let f = c .before .before .f .given .0 .0 in
     λ trits H T.
     c .before5 .ensures trits H (T .known .shadowed) (sym (counted-nodes (counted T)))
@@ -39,38 +43,39 @@ returns c =
     (given-refused (front5 trits H (T .marked .proper) (counted-shadows (counted T))) (x .rest .now) f (sym (ap checkedNumber (c .before .before .f .given .1)) ∙ opened .opened .ensures)))
 
 -- the front is open
-front : (c : tie.After-enum-told) → let x = c .before .before .before .before .before .before .before .before .args in 0 ≡ opens 25 (x .lay .shadows) (4 * x .lay .shadows) (x .rest .now)
+front : (c : tie.After-enum-told) → let x = start (c .before .before) .args in 0 ≡ opens 25 (x .lay .shadows) (4 * x .lay .shadows) (x .rest .now)
 front c = sym (ap checkedNumber (c .enum-told .given .1)) ∙ c .before .before .opened .ensures
 
-room : (c : tie.After-enum-told) → let x = c .before .before .before .before .before .before .before .before .args in 4 + 4 * x .lay .shadows ≤ length (x .rest .now)
-room c = let x = c .before .before .before .before .before .before .before .before .args in opens-room 25 (x .lay .shadows) (4 * x .lay .shadows) (x .rest .now) (sym (front c))
+room : (c : tie.After-enum-told) → let x = start (c .before .before) .args in 4 + 4 * x .lay .shadows ≤ length (x .rest .now)
+room c = let x = start (c .before .before) .args in opens-room 25 (x .lay .shadows) (4 * x .lay .shadows) (x .rest .now) (sym (front c))
 
 both-right-requires : tie.Need-both-right-requires
 both-right-requires c κs =
     let told = c .before .before .before in
-    let p = told .before .before .before .before .before .before .before .before .pre in
+    let p = start (told .before .before) .pre in
     let t = p .1 in
     let C = counted (t .2) in
     let marked = p .0 ∙ ap (λ (k : ℕ). 4 * (k + 1)) (sym (counted-marked C)) in
     (c .before .before .tryte-table .ensures, (t .0, t .1, t .2 .known, counted-trits C, sym (counted-nodes C), marked, c .contents .ensures .1 ∙ ap (λ (k : ℕ). 4 * k) (sym (counted-shadows C))))
 
 -- what sections 4 and 5 give
-gives : (c : tie.After-both-right) → let s = c .before .before .before .before .before .before .before .before .before .before .before .before in let x = s .args in (trits H : List ℕ)
+gives : (c : tie.After-both-right) → let told = c .before .before .before .before in let x = start (told .before .before) .args in (trits H : List ℕ)
     → Through trits H (x .bs .now) (x .hs .now) (x .marks .now) (x .lay)
     → (fault 25 (c .both-right .result) then checkGiven (givenFrom 3 trits H) (restOf (4 * x .lay .shadows) (x .rest .now)))
     ≡ (fault 25 (same (x .firsts .now) (bytes 4 (starts trits H))) then checkGiven (givenFrom 2 trits H) (x .rest .now))
 unfolding given section5
 gives c trits H T =
-    let s = c .before .before .before .before .before .before .before .before .before .before .before .before in
+    let told = c .before .before .before .before in
+    let s = start (told .before .before) in
     let C = counted T in
-    both-open (section5 trits H) (givenFrom 3 trits H) (s .args .rest .now) (front5 trits H (T .marked .proper) (counted-shadows C)) (front (c .before .before .before .before))
+    both-open (section5 trits H) (givenFrom 3 trits H) (s .args .rest .now) (front5 trits H (T .marked .proper) (counted-shadows C)) (front told)
     (c .before .contents .ensures .0) (same (s .args .firsts .now) (bytes 4 (starts trits H))) (c .both-right .result)
     (c .both-right .ensures trits H (T .known) (counted-trits C) (sym (counted-nodes C)) (s .pre .0 ∙ ap (λ (k : ℕ). 4 * (k + 1)) (sym (counted-marked C))))
 
 from6-requires : tie.Need-from6-requires
 from6-requires c κs =
     let lent = c .before .before .before .before .before .before in
-    let t = lent .before .before .before .before .before .before .before .before .before .pre .1 in
+    let t = start (lent .before .before .before) .pre .1 in
     (lent .tryte-table .ensures, (t .0, t .1, counted (t .2)))
 
 returns-2 : tie.Need-returns-2
