@@ -19,17 +19,22 @@ Inv-loop bs marks table rest lay l left₀ i₀ left i =
 abbrev μ-loop : tie.MeasureT-loop
 μ-loop bs marks table rest lay l left₀ i₀ left i = 3 - i
 
+-- the call
+abbrev start : tie.At-loop Inv-loop μ-loop → tie.Start Inv-loop μ-loop
+start at = at .before .before .before .before
+
 -- a level's size
-small : (c : tie.After-plan-of Inv-loop μ-loop) → let x = c .before .before .before .before .before .before .args in let p = c .plan-of .result in
+small : (c : tie.After-plan-of Inv-loop μ-loop) → let x = start (c .before .before) .args in let p = c .plan-of .result in
     (0 < p .step) × (x .lay .trits / p .step ≤ 125536) × (p .width * (2 * (x .lay .trits / p .step + 1)) ≤ 1004296)
 small c =
-    let t = c .before .before .before .before .before .before .pre .1 in
+    let t = start (c .before .before) .pre .1 in
     level-small (c .plan-of .ensures) (omega (arith, counted-trits (t .2), t .2 .trits-in .few))
 
 level-requires : tie.Need-level-requires Inv-loop μ-loop
 level-requires c κs =
-    let p = c .before .before .before .before .before .before .pre in
-    (p .0, (c .before .before .loop .i, c .plan-of .ensures), (p .1 .0, p .1 .2 .trits-in, counted-trits (p .1 .2)))
+    let at = c .before .before in
+    let p = start at .pre in
+    (p .0, (at .loop .i, c .plan-of .ensures), (p .1 .0, p .1 .2 .trits-in, counted-trits (p .1 .2)))
 
 returns : tie.Need-returns Inv-loop μ-loop
 returns c =
@@ -41,7 +46,7 @@ returns c =
     ∙ at .loop .inv .1 trits H C
 
 -- the level has passed
-passed : (c : tie.After-enum-told Inv-loop μ-loop) → let p = c .before .before .before in let at = p .before .before in let x = at .before .before .before .before .args in
+passed : (c : tie.After-enum-told Inv-loop μ-loop) → let p = c .before .before .before in let at = p .before .before in let x = start at .args in
     (trits H : List ℕ) → Counted trits H (x .bs .now) (x .marks .now) (x .lay)
     → 0 ≡ givenFault (levelOf (p .plan-of .result .step) (p .plan-of .result .fan) (p .plan-of .result .width) trits) (at .loop .left .now)
 passed c trits H C = sym (ap checkedNumber (c .enum-told .given .1)) ∙ c .before .before .level .ensures trits (C .trits-in) (counted-trits C)
@@ -49,7 +54,7 @@ passed c trits H C = sym (ap checkedNumber (c .enum-told .given .1)) ∙ c .befo
 after-requires : tie.Need-after-requires Inv-loop μ-loop
 after-requires c κs =
     let p = c .before .before .before in
-    let t = p .before .before .before .before .before .before .pre .1 in
+    let t = start (p .before .before) .pre .1 in
     level-room (t .2) (p .plan-of .ensures) _ (passed c (t .0) (t .1) (t .2))
 
 loop-again : tie.Need-loop-again Inv-loop μ-loop
@@ -87,5 +92,5 @@ from6-spec =
     (λ c. search needs)
     (λ c. search needs)
     loop-again
-    (λ c κs. let t = c .before .before .before .before .before .pre .1 in (t .0, t .1, t .2 .marked, counted-nodes (t .2)))
+    (λ c κs. let t = start (c .before) .pre .1 in (t .0, t .1, t .2 .marked, counted-nodes (t .2)))
     returns-2)
