@@ -2,6 +2,7 @@
 use Prim.Native.Nat.{ℕ, _≤_}
 use native.Mathlib.Omega.{arith}
 use mathlib.Core.Path.{_≡_, sym, ap, _∙_, subst}
+use mathlib.Core.List.{List}
 use borrow.Author.Needs.{needs}
 use lib.ListN.{length-drop}
 use Rattle.format.specs.Lists.{up}
@@ -15,14 +16,18 @@ use Rattle.proper.proofs.PassedLaws.{examines-as, refused-1, missing-1,
 use Rattle.proper.proofs.check.examine.Statement.{statement}
 use Rattle.proper.proofs.check.examine.Tie as tie
 
+-- the image
+abbrev image : tie.After-get4 → List ℕ
+image g = g .before .before .before .args .image .now
+
 -- the count of section 1
-count : (c : tie.After-get4) → c .get4 .result ≡ countOf (c .before .before .before .args .image .now)
+count : (c : tie.After-get4) → c .get4 .result ≡ countOf (image c)
 count c = c .get4 .ensures .0
 
 -- section 1, where its count is within the limit
-first : (c : tie.After-get4) → c .get4 .result ≤ 125536 → let b = c .before .before .before .args .image .now in
+first : (c : tie.After-get4) → c .get4 .result ≤ 125536 → let b = image c in
     SectionGives (fault1 b) b (1 ≤ countOf b) 23 (size1 b) (contentsFault1 (countOf b) (contentsOf (size1 b) b))
-first c h = checker-gives (c .before .before .before .args .image .now) .section-1 (omega (arith, count c))
+first c h = checker-gives (image c) .section-1 (omega (arith, count c))
 
 returns : tie.Need-returns
 returns c = refused-1 (c .before .before .args .image .now) ImageEnds (missing-1 (c .before .before .args .image .now) (c .if1 .taken))
@@ -30,7 +35,7 @@ returns c = refused-1 (c .before .before .args .image .now) ImageEnds (missing-1
 returns-2 : tie.Need-returns-2
 returns-2 c =
     let g = c .before in
-    let b = g .before .before .before .args .image .now in
+    let b = image g in
     refused-1 b ImageTooLarge (checker-gives b .too-large (omega (arith, g .before .if1 .left)) (omega (arith, count g, c .if2 .taken)))
 
 returns-3 : tie.Need-returns-3
@@ -39,24 +44,24 @@ returns-3 c =
     refused-1 _ TritsWrong (first g (omega (arith, c .before .if2 .left)) .count-wrong (omega (arith, g .before .if1 .left)) (λ h. omega (arith, count g, c .if3 .taken)))
 
 -- the count of section 1 is right, and its contents are there
-right : (c : tie.After-get4) → (c .get4 .result ≡ 0 → ⊥) → 1 ≤ countOf (c .before .before .before .args .image .now)
+right : (c : tie.After-get4) → (c .get4 .result ≡ 0 → ⊥) → 1 ≤ countOf (image c)
 right c h = omega (arith, count c, h)
 
 returns-4 : tie.Need-returns-4
 returns-4 c =
     let g = c .before .before .before in
-    let b = g .before .before .before .args .image .now in
+    let b = image g in
     refused-1 b ImageEnds (first g (omega (arith, c .before .before .if2 .left)) .contents-missing (omega (arith, g .before .if1 .left)) (right g (c .before .if3 .left)) (omega (arith, length-drop 4 b, count g, c .if4 .taken)))
 
 -- the bytes of section 1, as the definition cuts them
-bytes-are : (c : tie.After-contents) → let b = c .before .before .before .before .before .before .before .args .image .now in c .contents .result .now ≡ contentsOf (size1 b) b
-bytes-are c = c .contents .ensures .0 ∙ ap (λ (x : ℕ). contentsOf (up x 5) (c .before .before .before .before .before .before .before .args .image .now)) (count (c .before .before .before .before))
+bytes-are : (c : tie.After-contents) → let b = image (c .before .before .before .before) in c .contents .result .now ≡ contentsOf (size1 b) b
+bytes-are c = let g = c .before .before .before .before in c .contents .ensures .0 ∙ ap (λ (x : ℕ). contentsOf (up x 5) (image g)) (count g)
 
 there : (c : tie.After-contents) → let g = c .before .before .before .before in
-    fault1 (g .before .before .before .args .image .now) ≡ contentsFault1 (g .get4 .result) (c .contents .result .now)
+    fault1 (image g) ≡ contentsFault1 (g .get4 .result) (c .contents .result .now)
 there c =
     let g = c .before .before .before .before in
-    let b = g .before .before .before .args .image .now in
+    let b = image g in
     first g (omega (arith, c .before .before .before .if2 .left)) .contents-there (omega (arith, g .before .if1 .left)) (right g (c .before .before .if3 .left))
     (omega (arith, length-drop 4 b, count g, c .before .if4 .left))
     ∙ (λ i. contentsFault1 (sym (count g) i) (sym (bytes-are c) i))
@@ -83,7 +88,7 @@ returns-6 c =
     let told = c .before .before .before in
     let cut = told .before .before .before in
     let g = cut .before .before .before .before in
-    let b = g .before .before .before .args .image .now in
+    let b = image g in
     let rest = c .before .after .ensures ∙ ap (λ (x : ℕ). restOf (up x 5) b) (count g) in
     examines-as (c .from2 .result)
     ((λ i. check2 (untrytes (count g i) (bytes-are cut i)) (rest i)) ∙ sym (passed-1 b (there cut ∙ passed told .passed)))
