@@ -13,25 +13,29 @@ use Rattle.proper.proofs.KeyLaws.{many-are, shadow-room, key-is}
 use Rattle.proper.proofs.placed.entry_key.Statement.{statement}
 use Rattle.proper.proofs.placed.entry_key.Tie as tie
 
+-- the call
+abbrev start : tie.After-get4 → tie.Start
+start g = g .before .before .before .before
+
 -- the trit that was read is the place's
-trit-is : (c : tie.After-lone-trit) → let g = c .before .before in let s = g .before .before .before .before in
+trit-is : (c : tie.After-lone-trit) → let g = c .before .before in let s = start g in
     (trits : List ℕ) → TritsIn trits (s .args .bs .now) → c .lone-trit .result ≡ getD trits (g .get4 .result) 0
 trit-is c trits T = c .lone-trit .ensures .0 ∙ trit-in T (c .before .before .get4 .result)
 
 -- past both tests a 2 stands there
-here : (c : tie.Else2) → let g = c .before .before .before in let s = g .before .before .before .before in
+here : (c : tie.Else2) → let g = c .before .before .before in let s = start g in
     (trits : List ℕ) → TritsIn trits (s .args .bs .now) → length trits ≡ s .args .l → (g .get4 .result < length trits) × (getD trits (g .get4 .result) 0 ≡ 2)
 here c trits T n = (omega arith, omega (arith, trit-is (c .before) trits T, c .before .lone-trit .ensures .1))
 
 -- the twos before it are fewer than the shadows
-room : (c : tie.After-twos-before) → let s = c .before .before .before .before .before .before .before .before in 2 * c .twos-before .result + 2 ≤ length (s .args .hs .now)
+room : (c : tie.After-twos-before) → let s = start (c .before .before .before .before) in 2 * c .twos-before .result + 2 ≤ length (s .args .hs .now)
 room c =
-    let t = c .before .before .before .before .before .before .before .before .pre .3 in
+    let t = start (c .before .before .before .before) .pre .3 in
     let h = here (c .before) (t .0) (t .2 .trits-in) (t .3) in
     omega (arith, many-are (t .2), shadow-room (t .2) (h .0) (h .1), c .twos-before .ensures (t .0) (t .2 .trits-in) (t .3) (t .4))
 
 -- its key
-keyed : (c : tie.After-get2) → let g = c .before .before .before .before .before in let s = g .before .before .before .before in
+keyed : (c : tie.After-get2) → let g = c .before .before .before .before .before in let s = start g in
     (trits H : List ℕ) → Known trits H (s .args .bs .now) (s .args .hs .now) → length trits ≡ s .args .l → TwosAt trits (s .args .step) (s .args .twos .now)
     → 131072 * c .get2 .result + g .get4 .result ≡ key trits H (g .get4 .result)
 keyed c trits H K n W =
@@ -58,9 +62,9 @@ entry-key-spec =
     (λ c. search needs)
     (λ c κs. search needs)
     (λ c trits H K n W R. omega (arith, c .before .get4 .ensures .0, R .inside))
-    (λ c κs. let t = c .before .before .before .before .before .pre .3 in omega (arith, tryte-inside (t .2 .trits-in) (c .before .get4 .result / 5) (omega (arith, t .3))))
+    (λ c κs. let g = c .before in let t = start g .pre .3 in omega (arith, tryte-inside (t .2 .trits-in) (g .get4 .result / 5) (omega (arith, t .3))))
     (λ c trits H K n W R. omega (arith, trit-is (c .before) trits (K .trits-in), rw (← c .before .before .before .get4 .ensures .0) at (R .two)))
-    (λ c κs. let p = c .before .before .before .before .before .before .before .pre in let t = p .3 in (p .0, p .1, (t .0, t .2 .trits-in, t .3, t .4, omega arith)))
+    (λ c κs. let p = start (c .before .before .before) .pre in let t = p .3 in (p .0, p .1, (t .0, t .2 .trits-in, t .3, t .4, omega arith)))
     (λ c. omega (arith, room c))
     (λ c κs. room c)
     (λ c. search needs)
