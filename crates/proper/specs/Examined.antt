@@ -28,7 +28,7 @@ opens code entries size b = sectionFault (fault code (eqb (countOf b) entries)) 
 
 -- ---- sections 2 to 9, once section 1 has passed
 
--- the shadows that b has behind section 1, and what the checker gives for b
+-- b follows section 1: its shadows, and what the checker gives for it
 unfoldable pub shadows2 : List ℕ → List ℕ → List ℕ
 shadows2 trits b = fromBytes 2 (contentsOf (size2 trits) b)
 
@@ -60,7 +60,7 @@ pub record Through (trits H bs hs marks : List ℕ) (lay : Layout) : Type 0 wher
   pub marked : Marked trits H marks
   pub laid : lay ≡ laying trits H
 
--- what sections 6 to 9 are held to
+-- what the checker knows when it comes to sections 6 to 9: section 1's contents, section 3's, and the layout
 pub record Counted (trits H bs marks : List ℕ) (lay : Layout) : Type 0 where
   pub trits-in : TritsIn trits bs
   pub marked : Marked trits H marks

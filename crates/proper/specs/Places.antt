@@ -41,7 +41,7 @@ pub record Rises (trits H : List ℕ) (low p : ℕ) : Type 0 where
 -- what an entry p is answered by, where the key before it is below low
 abbrev pub Answered : List ℕ → List ℕ → ℕ → ℕ → Entry → Type 0
 Answered trits H low p Wrong = Rises trits H low p → ⊥
-Answered trits H low p (Key k) = Rises trits H low p × (k ≡ key trits H p)
+Answered trits H low p (Key x) = Rises trits H low p × (x ≡ key trits H p)
 
 -- a part of 4 bytes a number has number j, and that is x
 abbrev pub numberIs : List ℕ → ℕ → ℕ → Bool

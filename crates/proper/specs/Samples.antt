@@ -15,7 +15,7 @@ pub data Level : ℕ → ℕ → ℕ → ℕ → Type 0 where
   middle : Level 1 275 239 2
   near : Level 2 25 11 1
 
--- the section with so many steps, and so many bytes a number
+-- the section with a pair before every multiple of `step`, counted anew every `fan` steps, `width` bytes a number
 unfoldable pub levelOf : ℕ → ℕ → ℕ → List ℕ → Section
 levelOf step fan width trits = record { entries = length trits / step + 1; contents = bytes width (pairs step (lastMultiple (step * fan)) trits) }
 

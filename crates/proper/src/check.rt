@@ -117,7 +117,7 @@ fn level(
     Checked::Refused(Refusal::IndexWrong)
 }
 
-// What section 6, 7 or 8 counts by.
+// How section 6, 7 or 8 counts: trits from sample to sample, samples until counting begins anew (in section 6 more than an image has), bytes a number.
 struct Plan {
     step: usize,
     fan: usize,

@@ -1,5 +1,4 @@
-// Section 5, and section 4 beside it: the places of the twos by node, and where each marked node's begin. The keys of the places have to rise, and
-// as many rising keys as there are twos are all of them.
+// Sections 4 and 5 by keys. A place's key is its node, then the place; section 5 is right exactly if its k places hold twos and their keys rise.
 use crate::started::smaller;
 use little::get2;
 use little::get4;
@@ -71,7 +70,7 @@ fn twos_to(bs: &[u8], counts: &[u8; 243], from: usize, end: usize, before: usize
     n
 }
 
-// How many trytes lie between samples: as few as 2,048 samples allow, of two steps that are fixed.
+// How many trytes lie from sample to sample: 8 where 2,048 samples are then enough, with a few trits to spare, else 13.
 fn step_for(l: usize) -> usize
     requires { ⌜ l ≤ 125536 ⌝ }
     ensures { λ r. ⌜ Step l r ⌝ }
@@ -82,7 +81,7 @@ fn step_for(l: usize) -> usize
     13
 }
 
-// Puts the twos before every tryte that is a multiple of `step`; past the last whole tryte, those before that one.
+// Puts the twos before every tryte whose number is a multiple of `step`; past the whole trytes, the twos of all of these.
 fn sample_twos(bs: &[u8], counts: &[u8; 243], l: usize, step: usize, twos: &mut [u16; 2048])
     requires { ⌜ TwoTable (now counts) × (length (now twos) ≡ 2048) × Step l step
         × ((trits : List ℕ) × TritsIn trits (now bs) × (length trits ≡ l) × (countIn 2 trits ≤ 65535)) ⌝ }
