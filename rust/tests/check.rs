@@ -750,7 +750,7 @@ fn large(cases: &mut Cases) {
     let rng = &mut Xorshift::new(47);
     let mut graphs = make::largest(rng);
     graphs.push(make::used_by_all(30_000, 5_724)); // L = 65,725
-    // From L = 81,880 on the checker's samples lie further apart.
+                                                   // From L = 81,880 on the checker's samples lie further apart.
     graphs.push(make::used_at_random(8_172, 65_534, rng));
     graphs.push(make::used_at_random(8_172, 65_535, rng));
     let mut images: Vec<Made> = graphs.iter().map(image_of).collect();

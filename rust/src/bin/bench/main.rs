@@ -1,5 +1,6 @@
 //! Times the library beside ordinary Rust with growable lists, in one run:
-//! packing and checking over eight shapes and five sizes, then batches of
+//! packing and checking over eight shapes and five sizes, checking over nine
+//! numbers of nodes with as many edges as there may be, then batches of
 //! questions of each kind.
 
 mod asking;
@@ -14,5 +15,6 @@ fn main() {
     println!("Ratios are of medians and of leasts; below 1 the first is faster. Our buffers");
     println!("were allocated once for each line. On a busy machine go by the leasts.");
     packing::run();
+    packing::sweep();
     asking::run();
 }

@@ -38,6 +38,22 @@ const SHAPES: [Shape; 8] = [
     }),
 ];
 
+/// A family: its name and the graph of n nodes and 65,535 edges.
+type Family = (&'static str, fn(usize) -> Graph);
+
+const FAMILIES: [Family; 3] = [
+    ("random", |n| {
+        make::random(n, 65_535, 1, &mut Xorshift::new(41))
+    }),
+    ("roots used in turn", |n| make::used_in_turn(n, 65_535)),
+    ("roots used at random", |n| {
+        make::used_at_random(n, 65_535, &mut Xorshift::new(43))
+    }),
+];
+
+/// Nodes of each family; the checker goes another way up to 2,048.
+const NODES: [usize; 9] = [5, 50, 500, 2_048, 2_049, 5_000, 8_300, 15_000, 30_000];
+
 /// Trits aimed at; the last is above every shape's largest.
 const SIZES: [usize; 5] = [1_000, 4_000, 16_000, 50_000, 130_000];
 
@@ -99,5 +115,19 @@ pub fn run() {
     times::heading(["shape", "trits"], ["check med", "pack med"]);
     for (name, m) in &lines {
         times::line(name, m.trits, [&m.check, &m.pack]);
+    }
+}
+
+/// Measures the families and prints a block.
+pub fn sweep() {
+    println!();
+    println!("Checking beside packing where few or many nodes have 65,535 edges: nanoseconds a");
+    println!("trit.");
+    times::heading(["family", "nodes"], ["check med", "pack med"]);
+    for (name, family) in FAMILIES {
+        for n in NODES {
+            let m = measure(&family(n));
+            times::line(name, n, [&m.check, &m.pack]);
+        }
     }
 }
