@@ -1,10 +1,10 @@
--- `cases::packed::front_bytes` is safe and ends. Assumes nothing.
+-- `cases::front_bytes` is safe and ends. Assumes nothing.
 use native.Mathlib.Omega.{arith}
 use mathlib.Core.Path.{sym}
 use borrow.Author.Needs.{needs}
 use lib.Seq.{length-take-le}
-use Rattle.cases.proofs.packed.front_bytes.Statement.{statement}
-use Rattle.cases.proofs.packed.front_bytes.Tie as tie
+use Rattle.cases.proofs.front_bytes.Statement.{statement}
+use Rattle.cases.proofs.front_bytes.Tie as tie
 
 pub front-bytes-spec : {M : Type 1} → statement M
 front-bytes-spec =

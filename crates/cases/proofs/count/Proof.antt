@@ -1,9 +1,9 @@
--- `cases::packed::count` is safe and ends. Assumes nothing.
+-- `cases::count` is safe and ends. Assumes nothing.
 use Prim.Native.Nat.{_-_, _≤_}
 use borrow.Author.Needs.{needs}
 use lib.ListN.{length}
-use Rattle.cases.proofs.packed.count.Statement.{statement}
-use Rattle.cases.proofs.packed.count.Tie as tie
+use Rattle.cases.proofs.count.Statement.{statement}
+use Rattle.cases.proofs.count.Tie as tie
 
 abbrev Inv-loop : tie.InvT-loop
 Inv-loop words x n₀ i₀ n i = (n ≤ i) × (i ≤ length words)

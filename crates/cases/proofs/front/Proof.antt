@@ -1,10 +1,10 @@
--- `cases::packed::front` is safe and ends. Assumes nothing.
+-- `cases::front` is safe and ends. Assumes nothing.
 use native.Mathlib.Omega.{arith}
 use mathlib.Core.Path.{sym}
 use borrow.Author.Needs.{needs}
 use lib.Seq.{length-take-le}
-use Rattle.cases.proofs.packed.front.Statement.{statement}
-use Rattle.cases.proofs.packed.front.Tie as tie
+use Rattle.cases.proofs.front.Statement.{statement}
+use Rattle.cases.proofs.front.Tie as tie
 
 pub front-spec : {M : Type 1} → statement M
 front-spec =

@@ -1,24 +1,27 @@
--- `cases::packed::all_roots` is safe and ends. Assumes nothing.
+-- `cases::read` is safe and ends. Assumes nothing.
 use Prim.Native.Nat.{_-_, _≤_}
 use mathlib.Core.Path.{_≡_}
 use borrow.Author.Needs.{needs}
 use lib.ListN.{length}
-use Rattle.cases.proofs.packed.all_roots.Statement.{statement}
-use Rattle.cases.proofs.packed.all_roots.Tie as tie
+use Rattle.cases.proofs.read.Statement.{statement}
+use Rattle.cases.proofs.read.Tie as tie
 
 abbrev Inv-loop : tie.InvT-loop
-Inv-loop table₀ i₀ table i = (i ≤ 30000) × (length table ≡ length table₀)
+Inv-loop text table₀ n₀ x₀ i₀ table n x i = (i ≤ length text) × (length table ≡ length table₀)
 
 abbrev μ-loop : tie.MeasureT-loop
-μ-loop table₀ i₀ table i = 30000 - i
+μ-loop text table₀ n₀ x₀ i₀ table n x i = length text - i
 
-pub all-roots-spec : {M : Type 1} → statement M
-all-roots-spec =
+pub read-spec : {M : Type 1} → statement M
+read-spec =
     tie.close
     (tie.spec
     Inv-loop
     μ-loop
     (λ c. search needs)
+    (λ c. search needs)
+    (λ c. search needs)
+    (λ c κs. search needs)
     (λ c. search needs)
     (λ c. search needs)
     (λ c. search needs)

@@ -1,10 +1,10 @@
--- `cases::text::say_words` is safe and ends. Assumes nothing.
+-- `cases::say_short_words` is safe and ends. Assumes nothing.
 use Prim.Native.Nat.{_-_, _≤_}
 use mathlib.Core.Path.{_≡_}
 use borrow.Author.Needs.{needs}
 use lib.ListN.{length}
-use Rattle.cases.proofs.text.say_words.Statement.{statement}
-use Rattle.cases.proofs.text.say_words.Tie as tie
+use Rattle.cases.proofs.say_short_words.Statement.{statement}
+use Rattle.cases.proofs.say_short_words.Tie as tie
 
 abbrev Inv-loop : tie.InvT-loop
 Inv-loop words i₀ t3 i-end i = (i ≤ i-end) × (i-end ≡ length words)
@@ -12,8 +12,8 @@ Inv-loop words i₀ t3 i-end i = (i ≤ i-end) × (i-end ≡ length words)
 abbrev μ-loop : tie.MeasureT-loop
 μ-loop words i₀ t3 i-end i = i-end - i
 
-pub say-words-spec : {M : Type 1} → statement M
-say-words-spec =
+pub say-short-words-spec : {M : Type 1} → statement M
+say-short-words-spec =
     tie.close
     (tie.spec
     Inv-loop
@@ -23,6 +23,7 @@ say-words-spec =
     (λ c κs. search needs)
     (λ c. search needs)
     (λ c. search needs)
+    (λ c κs. search needs)
     (λ c κs. search needs)
     (λ c. search needs)
     (λ c. search needs)
