@@ -40,8 +40,7 @@ counted-spec =
     (λ c κs. search needs)
     returns
     (λ c. omega (arith, low (c .before .before)))
-    (λ c κs. search needs)
-    (λ c κs. search needs)
+    (λ c κs. search needs) (λ c κs. search needs)
     (λ c. first-le (c .before .before .before .before))
     (λ c. omega (arith, filled c))
     (λ c. omega (arith, filled c))

@@ -52,11 +52,7 @@ pub rank-block-spec : {M : Type 1} → statement M
 rank-block-spec =
     tie.close
     (tie.spec
-    (λ c. search needs)
-    (λ c. search needs)
-    (λ c. search needs)
-    (λ c. search needs)
-    (λ c κs. search needs)
+    (λ c. search needs) (λ c. search needs) (λ c. search needs) (λ c. search needs) (λ c κs. search needs)
     far-requires
     (λ c κs. search needs)
     middle-requires

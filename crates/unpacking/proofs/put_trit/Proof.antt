@@ -74,8 +74,7 @@ put-trit-spec =
     put-word-requires
     (λ c. search needs)
     returns
-    (λ c. search needs)
-    (λ c. search needs)
+    (λ c. search needs) (λ c. search needs)
     (λ c. omega (arith, few c))
     (λ c κs. omega (arith, few (c .before)))
     (λ c. search needs)

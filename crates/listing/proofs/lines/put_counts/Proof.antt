@@ -18,13 +18,9 @@ put-counts-spec =
     (tie.spec
     (λ c. omega (arith, counts-small (laid (c .before))))
     (λ c. omega (arith, edges-are (laid (c .before .before))))
-    (λ c. search needs)
-    (λ c. search needs)
-    (λ c. search needs)
+    (λ c. search needs) (λ c. search needs) (λ c. search needs)
     (λ c κs. let s = c .before .before .before .before .before .before in fits (begin-counts (laid s) refl refl (s .before .before .pre .2)))
-    (λ c. search needs)
-    (λ c. search needs)
-    (λ c. search needs)
+    (λ c. search needs) (λ c. search needs) (λ c. search needs)
     (λ c κs.
     let g = c .before .before .before .before .before .before in
     let s = g .before .before .before .before .before .before .before in

@@ -21,15 +21,12 @@ pub put-neighbour-spec : {M : Type 1} → statement M
 put-neighbour-spec =
     tie.close
     (tie.spec
-    (λ c κs. search needs)
-    (λ c. search needs)
-    (λ c. search needs)
+    (λ c κs. search needs) (λ c. search needs) (λ c. search needs)
     (λ c κs.
     let v = c .before .before in
     let x = v .before .before in
     fits (begin-neighbour (answerNumbers (x .args .found)) (v .value .ensures) (x .pre)))
-    (λ c κs. search needs)
-    (λ c. search needs)
+    (λ c κs. search needs) (λ c. search needs)
     (λ c κs.
     let t = c .before .before in
     let s = t .before in

@@ -43,9 +43,7 @@ put-neighbours-spec =
     (tie.spec
     Inv-loop
     μ-loop
-    (λ c. search needs)
-    (λ c κs. search needs)
-    (λ c κs. search needs)
+    (λ c. search needs) (λ c κs. search needs) (λ c κs. search needs)
     (λ c κs. let x = c .before .before .before .before .before .before in fits (begin-two (x .args .sign .now) _ (x .pre .2)))
     (λ c.
     let s = c .before .before in

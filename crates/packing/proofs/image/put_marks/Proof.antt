@@ -80,8 +80,7 @@ put-marks-spec =
     (λ c. let x = starts (c .before .before) in omega (arith, fit x, x .good))
     (λ c. omega (arith, fit (starts (c .before .before .before))))
     (λ c κs. omega (arith, fit (starts (c .before .before .before))))
-    (λ c. search needs)
-    (λ c. search needs)
+    (λ c. search needs) (λ c. search needs)
     (λ c. omega (arith, fit (starts (c .before .before .before .before .before .before))))
     put-mark-samples-requires
     (λ c. search needs)

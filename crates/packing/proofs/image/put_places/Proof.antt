@@ -43,6 +43,5 @@ put-places-spec =
     (λ c. omega (arith, within (start (c .before .before .before .before) .pre .2 .laid)))
     (λ c κs. omega (arith, within (start (c .before .before .before .before) .pre .2 .laid)))
     put-places-requires
-    (λ c. search needs)
-    (λ c. search needs)
+    (λ c. search needs) (λ c. search needs)
     returns)

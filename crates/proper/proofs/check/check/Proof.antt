@@ -9,8 +9,6 @@ pub check-spec : {M : Type 1} → statement M
 check-spec =
     tie.close
     (tie.spec
-    (λ c κs. search needs)
-    (λ c. search needs)
-    (λ c. search needs)
+    (λ c κs. search needs) (λ c. search needs) (λ c. search needs)
     (λ c. sym (subst (Examines _ _) (c .before .f .given .1) (c .before .before .before .examine .ensures)))
     (λ c. sym (subst (Examines _ _) (c .before .lay .given .1) (c .before .before .before .examine .ensures) .0)))

@@ -103,14 +103,11 @@ examine-spec =
     (λ c κs. search needs)
     returns-2
     returns-3
-    (λ c. search needs)
-    (λ c. search needs)
+    (λ c. search needs) (λ c. search needs)
     returns-4
     (λ c κs. search needs)
     section1-requires
-    (λ c. search needs)
-    (λ c. search needs)
-    (λ c κs. search needs)
+    (λ c. search needs) (λ c. search needs) (λ c κs. search needs)
     (λ c κs. passed (c .before .before))
     returns-5
     returns-6)

@@ -92,8 +92,7 @@ from2-spec =
     tie.close
     (tie.spec
     (λ c. omega (arith, few (c .before .before)))
-    (λ c κs. search needs)
-    (λ c. search needs)
+    (λ c κs. search needs) (λ c. search needs)
     returns
     (λ c. search needs)
     (λ c κs. room c)

@@ -129,8 +129,7 @@ from3-spec =
     (tie.spec
     (λ c. omega (arith, few (c .before .before .before)))
     (λ c. omega (arith, few (c .before .before .before)))
-    (λ c κs. search needs)
-    (λ c. search needs)
+    (λ c κs. search needs) (λ c. search needs)
     returns
     (λ c. search needs)
     (λ c κs. room c)
@@ -139,8 +138,7 @@ from3-spec =
     lay-out-requires
     (λ c κs. room (c .before .before .before .before .before))
     (λ c κs. let p = start3 (c .before .before .before .before) .pre in (p .0, p .1, through (c .before) (p .0) (p .1) (p .2) (p .3)))
-    (λ c. search needs)
-    (λ c. search needs)
+    (λ c. search needs) (λ c. search needs)
     returns-2
     returns-3
     returns-4)

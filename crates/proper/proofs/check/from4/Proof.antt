@@ -52,8 +52,7 @@ from4-spec =
     (tie.spec
     (λ c. omega (arith, few (c .before .before .before .before .before)))
     (λ c. omega (arith, few (c .before .before .before .before .before)))
-    (λ c κs. search needs)
-    (λ c. search needs)
+    (λ c κs. search needs) (λ c. search needs)
     returns
     (λ c. search needs)
     (λ c κs. room c)

@@ -91,12 +91,10 @@ from5-spec =
     tie.close
     (tie.spec
     (λ c. omega (arith, few (c .before .before .before .before .before)))
-    (λ c κs. search needs)
-    (λ c. search needs)
+    (λ c κs. search needs) (λ c. search needs)
     before5-requires
     returns
-    (λ c. search needs)
-    (λ c κs. search needs)
+    (λ c. search needs) (λ c κs. search needs)
     (λ c κs. room (c .before .before))
     both-right-requires
     (λ c κs. room (c .before .before .before .before .before .before))

@@ -89,8 +89,7 @@ from6-spec =
     (λ c. omega (arith, small (c .before .before .before) .1))
     (λ c. omega (arith, small (c .before .before .before) .2))
     after-requires
-    (λ c. search needs)
-    (λ c. search needs)
+    (λ c. search needs) (λ c. search needs)
     loop-again
     (λ c κs. let t = start (c .before) .pre .1 in (t .0, t .1, t .2 .marked, counted-nodes (t .2)))
     returns-2)

@@ -71,9 +71,7 @@ from9-spec =
     tie.close
     (tie.spec
     add-words
-    (λ c. search needs)
-    (λ c κs. search needs)
-    (λ c. search needs)
+    (λ c. search needs) (λ c κs. search needs) (λ c. search needs)
     returns
     (λ c. search needs)
     (λ c κs. room c)

@@ -65,8 +65,7 @@ level-spec =
     (λ c. omega (arith, small (c .before .before) .1))
     (λ c. omega (arith, small (c .before .before) .1))
     (λ c. omega (arith, small (c .before .before) .2))
-    (λ c κs. search needs)
-    (λ c. search needs)
+    (λ c κs. search needs) (λ c. search needs)
     returns
     (λ c. search needs)
     (λ c κs. opens-room _ _ _ _ (sym (front c)))

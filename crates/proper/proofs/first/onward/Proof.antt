@@ -42,11 +42,9 @@ pub onward-spec : {M : Type 1} → statement M
 onward-spec =
     tie.close
     (tie.spec
-    (λ c. search needs)
-    (λ c κs. search needs)
+    (λ c. search needs) (λ c κs. search needs)
     (λ c. (omega arith, c .trit-on .ensures .1))
-    (λ c. search needs)
-    (λ c κs. search needs)
+    (λ c. search needs) (λ c κs. search needs)
     (λ c. (omega arith, c .trit-on2 .ensures .1))
     (λ c. let s = c .before .before .before .before in tryte-inside (s .pre .1) (s .args .c .p / 5) (omega (arith, s .pre .2)))
     (λ c κs. search needs)

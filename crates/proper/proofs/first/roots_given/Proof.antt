@@ -50,7 +50,6 @@ roots-given-spec =
     (λ c κs. search needs)
     returns
     returns-2
-    (λ c. search needs)
-    (λ c. search needs)
+    (λ c. search needs) (λ c. search needs)
     loop-again
     (λ c r e. roots-end (c .before .loop .inv .1) (omega arith) e))

@@ -59,14 +59,11 @@ section1-spec =
     returns
     (λ c κs. search needs)
     returns-2
-    (λ c κs. search needs)
-    (λ c. search needs)
-    (λ c. search needs)
+    (λ c κs. search needs) (λ c. search needs) (λ c. search needs)
     returns-3
     (λ c κs. search needs)
     nodes-given-requires
-    (λ c. search needs)
-    (λ c. search needs)
+    (λ c. search needs) (λ c. search needs)
     returns-4
     (λ c. ruled-nodes (ruled (c .before)) (omega arith))
     (λ c. omega (arith, ruled-room (ruled (c .before))))

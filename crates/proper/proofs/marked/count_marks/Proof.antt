@@ -30,7 +30,6 @@ count-marks-spec =
     (λ c. counted-none _)
     (λ c κs. search needs)
     add-count
-    (λ c. search needs)
-    (λ c. search needs)
+    (λ c. search needs) (λ c. search needs)
     next
     returns)

@@ -53,7 +53,6 @@ mark-samples-right-spec =
     returns
     (λ c κs. search needs)
     add-sum
-    (λ c. search needs)
-    (λ c. search needs)
+    (λ c. search needs) (λ c. search needs)
     next
     returns-2)

@@ -54,10 +54,8 @@ words-right-spec =
     (λ c. below-none _)
     (λ c. search needs)
     shared-slice-read-word
-    (λ c. search needs)
-    (λ c κs. search needs)
+    (λ c. search needs) (λ c κs. search needs)
     returns
-    (λ c. search needs)
-    (λ c. search needs)
+    (λ c. search needs) (λ c. search needs)
     loop-again
     returns-2)

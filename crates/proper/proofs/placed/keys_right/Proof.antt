@@ -113,8 +113,7 @@ keys-right-spec =
     μ-loop
     (λ c. (omega arith, omega arith, λ trits H K n W. indexed-none (K .shadowed .proper)))
     (λ c κs. let p = c .before .before .before .before .before .before .pre in let t = p .2 in (p .0, p .1, omega arith, (t .0, t .1, t .2, t .3, t .4)))
-    (λ c. search needs)
-    (λ c. search needs)
+    (λ c. search needs) (λ c. search needs)
     returns
     add-low
     (λ c. search needs)

@@ -40,9 +40,7 @@ twos-before-spec =
     (tie.spec
     (λ c κs. let p = c .before .pre in let t = p .2 in (p .0, p .1, (t .0, t .1, t .2, t .3, omega (arith, t .4))))
     (λ c. let s = c .before .before .before in let t = s .pre .2 in tryte-inside (t .1) (s .args .p / 5) (omega (arith, t .2, t .4)))
-    (λ c κs. search needs)
-    (λ c κs. search needs)
-    (λ c. search needs)
+    (λ c κs. search needs) (λ c κs. search needs) (λ c. search needs)
     (λ c κs. let w = c .before in let p = w .before .before .before .before .pre in let t = p .2 in
     (p .0, omega (arith, mod-le (w .wide .result) (c .power .result), here w (t .0) (t .1) (omega (arith, t .2, t .4)) .low)))
     (λ c. let s = c .before .before .before .before .before .before in let t = s .pre .2 in omega (arith, summed c (t .0) (t .1) (t .2) (t .4) (t .3), few-twos (t .1) (s .args .p)))

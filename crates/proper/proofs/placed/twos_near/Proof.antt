@@ -60,8 +60,7 @@ twos-near-spec =
     (λ c. nearest (c .before) .low)
     (λ c κs. search needs)
     (λ c. let s = c .before .before .before in omega (arith, few s, nearest s .early))
-    (λ c κs. search needs)
-    (λ c κs. search needs)
+    (λ c κs. search needs) (λ c κs. search needs)
     (λ c. let at = c .before in let s = at .before .before .before .before in omega (arith, few s, reach at, s .pre .4 .4))
     (λ c. omega (arith, c .smaller2 .ensures))
     (λ c κs. let at = c .before in let s = at .before .before .before .before in let p = s .pre in let t = p .4 in

@@ -53,7 +53,6 @@ twos-to-spec =
     (λ c κs. search needs)
     two-count-requires
     (λ c. omega (arith, few (c .before .before .before .before)))
-    (λ c. search needs)
-    (λ c. search needs)
+    (λ c. search needs) (λ c. search needs)
     loop-again
     returns)

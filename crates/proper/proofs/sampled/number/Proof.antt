@@ -15,8 +15,7 @@ pub number-spec : {M : Type 1} → statement M
 number-spec =
     tie.close
     (tie.spec
-    (λ c. search needs)
-    (λ c κs. search needs)
+    (λ c. search needs) (λ c κs. search needs)
     (λ c. let s = c .before in at-width (s .before .before) 4 _ (s .if1 .taken) (c .get4 .ensures .0))
     (λ c κs. search needs)
     (λ c. let s = c .before in at-width (s .before .before .before) 2 _ (s .if2 .taken) (c .get2 .ensures .0))

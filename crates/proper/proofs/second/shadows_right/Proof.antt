@@ -67,7 +67,6 @@ shadows-right-spec =
     add-ones
     (λ c κs. search needs)
     add-twos
-    (λ c. search needs)
-    (λ c. search needs)
+    (λ c. search needs) (λ c. search needs)
     loop-again
     returns-2)

@@ -27,8 +27,7 @@ pub tryte-count-spec : {M : Type 1} → statement M
 tryte-count-spec =
     tie.close
     (tie.spec
-    (λ c. search needs)
-    (λ c κs. search needs)
+    (λ c. search needs) (λ c κs. search needs)
     zeros
     ones
     (λ c. omega (arith, parts (c .before .before)))

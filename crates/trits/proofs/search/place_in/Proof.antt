@@ -40,15 +40,13 @@ pub place-in-spec : {M : Type 1} → statement M
 place-in-spec =
     tie.close
     (tie.spec
-    (λ c. search needs)
-    (λ c. search needs)
+    (λ c. search needs) (λ c. search needs)
     (λ c. omega (arith, hits c))
     (λ c. search needs)
     (λ c. omega (arith, hits c))
     (λ c. search needs)
     (λ c. omega (arith, hits c))
-    (λ c. search needs)
-    (λ c. search needs)
+    (λ c. search needs) (λ c. search needs)
     (λ c. omega (arith, tests c))
     (λ c. search needs)
     (λ c. omega (arith, tests c))
