@@ -8,5 +8,6 @@ use Rattle.cases.proofs.front_bytes.Tie as tie
 
 pub front-bytes-spec : {M : Type 1} → statement M
 front-bytes-spec =
-    tie.close
-    (tie.spec (λ c. search needs) (λ c. let a = c .before .before .args in sym (length-take-le (a .size) (a .bytes .now) (omega (arith, c .before .if1 .left)))) (λ c. search needs))
+    tie.close (tie.spec (λ c. search needs)
+    (λ c. let a = c .before .before .args in sym (length-take-le (a .size) (a .bytes .now) (omega (arith, c .before .if1 .left))))
+    (λ c. search needs))

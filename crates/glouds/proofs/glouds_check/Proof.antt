@@ -12,4 +12,5 @@ returns-2 : tie.Need-returns-2
 returns-2 c = c .number .ensures ∙ sym (ap checkedNumber (c .before .before .r .given .1)) ∙ c .before .before .before .before .check .ensures
 
 pub glouds-check-spec : {M : Type 1} → statement M
-glouds-check-spec = tie.close (tie.spec (λ c κs. search needs) (λ c. search needs) (λ c. search needs) (λ c κs. search needs) returns returns-2)
+glouds-check-spec =
+    tie.close (tie.spec (λ c κs. search needs) (λ c. search needs) (λ c. search needs) (λ c κs. search needs) returns returns-2)

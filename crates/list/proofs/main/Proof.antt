@@ -8,9 +8,7 @@ use Rattle.list.proofs.main.Tie as tie
 
 pub main-spec : {M : Type 1} → statement M
 main-spec =
-    tie.close
-    (tie.spec
-    (λ c. search needs) (λ c κs. search needs) (λ c. search needs) (λ c. search needs) (λ c κs. search needs)
+    tie.close (tie.spec (λ c. search needs) (λ c κs. search needs) (λ c. search needs) (λ c. search needs) (λ c κs. search needs)
     (λ c. text-inside _ _ (c .listing .ensures))
     (λ c. simp length-take (omega (arith, text-inside _ _ (c .before .listing .ensures))))
     (λ c κs. search needs) (λ c. search needs))

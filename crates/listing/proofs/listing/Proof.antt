@@ -33,14 +33,12 @@ size c = c .read-words .ensures .0 ∙ sym (ap length (table c))
 
 pub listing-spec : {M : Type 1} → statement M
 listing-spec =
-    tie.close
-    (tie.spec
+    tie.close (tie.spec
     (λ c κs. text-room (c .before .before .before .args .input .now) (listing-gives _ .input-wrong (inl (c .before .if1 .taken))) (omega arith))
     (λ c. text-outcome (c .before .before .before .before .args .input .now) (listing-gives _ .input-wrong (inl (c .before .before .if1 .taken))) (c .put-refusal .ensures))
     (λ c κs. text-room (c .before .before .before .before .args .input .now) (listing-gives _ .input-wrong (inr (omega (arith, c .before .if2 .taken)))) (omega arith))
     (λ c. text-outcome (c .before .before .before .before .before .args .input .now) (listing-gives _ .input-wrong (inr (omega (arith, c .before .before .if2 .taken)))) (c .put-refusal2 .ensures))
-    (λ c. search needs)
-    (λ c κs. whole (c .before))
+    (λ c. search needs) (λ c κs. whole (c .before))
     (λ c. let r = c .before .before in omega (arith, size r, length-take (r .read-words .result) (r .read-words .last .1 .0)))
     (λ c. size (c .before .before .before))
     (λ c κs.

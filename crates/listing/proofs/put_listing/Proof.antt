@@ -28,9 +28,7 @@ counted c =
 
 pub put-listing-spec : {M : Type 1} → statement M
 put-listing-spec =
-    tie.close
-    (tie.spec
-    (λ c κs. search needs) (λ c. search needs) (λ c. search needs)
+    tie.close (tie.spec (λ c κs. search needs) (λ c. search needs) (λ c. search needs)
     (λ c.
     let e = c .before .before in
     absurd (omega (arith, refusal-some (c .enum-told .given .0 .0), subst (Examines _ _) (c .enum-told .given .1) (e .examine .ensures), e .before .before .before .pre .0)))

@@ -39,15 +39,12 @@ packed c =
 
 pub put-table-spec : {M : Type 1} → statement M
 put-table-spec =
-    tie.close
-    (tie.spec
-    (λ c. search needs) (λ c. search needs) (λ c. search needs) (λ c κs. search needs) (λ c. search needs)
+    tie.close (tie.spec (λ c. search needs) (λ c. search needs) (λ c. search needs) (λ c κs. search needs) (λ c. search needs)
     (λ c κs.
     let f = c .before .before in
     let p = f .before .before .before .before .before in
     subst (Room _ 0) (sym (refused f)) (start p .pre .1))
-    (λ c. search needs)
-    (λ c. packed (c .before .before) .0)
+    (λ c. search needs) (λ c. packed (c .before .before) .0)
     (λ c. simp length-take (omega (arith, packed (c .before .before .before) .0)))
     (λ c κs.
     let s = c .before .before .before in

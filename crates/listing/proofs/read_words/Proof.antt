@@ -16,18 +16,13 @@ abbrev μ-loop : tie.MeasureT-loop
 
 pub read-words-spec : {M : Type 1} → statement M
 read-words-spec =
-    tie.close
-    (tie.spec
-    Inv-loop
-    μ-loop
+    tie.close (tie.spec Inv-loop μ-loop
     (λ c. let x = c .before .before in over-none _ _ _ (words-many (x .args .input .now) (x .pre .0)) (omega (arith, x .pre .1)))
-    (λ c. omega arith)
-    (λ c κs. omega arith)
+    (λ c. omega arith) (λ c κs. omega arith)
     (λ c. omega (arith, c .get2 .ensures .1))
     (λ c. omega arith)
     (λ c. omega (arith, over-length (c .before .before .loop .inv), c .before .before .before .before .before .pre .1))
-    (λ c. omega arith)
-    (λ c. omega arith)
+    (λ c. omega arith) (λ c. omega arith)
     (λ c.
     let t = c .before in
     let x = t .before .before .before .before in

@@ -12,5 +12,4 @@ returns c =
     put-add 1 1 (x .at) (x .n) (x .s .now) (omega arith) (low .put1 .ensures) (c .before .before .put12 .ensures)
 
 pub put2-spec : {M : Type 1} → statement M
-put2-spec =
-    tie.close (tie.spec (λ c κs. search needs) (λ c. search needs) (λ c κs. search needs) (λ c. search needs) returns)
+put2-spec = tie.close (tie.spec (λ c κs. search needs) (λ c. search needs) (λ c κs. search needs) (λ c. search needs) returns)

@@ -12,5 +12,4 @@ returns c =
     put-add 2 2 (x .at) (x .n) (x .s .now) (omega arith) (low .put2 .ensures) (c .before .before .put22 .ensures)
 
 pub put4-spec : {M : Type 1} → statement M
-put4-spec =
-    tie.close (tie.spec (λ c κs. search needs) (λ c. search needs) (λ c κs. search needs) (λ c. search needs) returns)
+put4-spec = tie.close (tie.spec (λ c κs. search needs) (λ c. search needs) (λ c κs. search needs) (λ c. search needs) returns)

@@ -33,16 +33,11 @@ returns-2 c = let e : c .before .before .before .before .args .t ≡ 2 = omega a
 
 pub counted-spec : {M : Type 1} → statement M
 counted-spec =
-    tie.close
-    (tie.spec
+    tie.close (tie.spec
     (λ c. omega (arith, low (c .before)))
     (λ c. omega (arith, low (c .before .before)))
-    (λ c κs. search needs)
-    returns
+    (λ c κs. search needs) returns
     (λ c. omega (arith, low (c .before .before)))
     (λ c κs. search needs) (λ c κs. search needs)
     (λ c. first-le (c .before .before .before .before))
-    (λ c. omega (arith, filled c))
-    (λ c. omega (arith, filled c))
-    (λ c. omega (arith, filled c))
-    returns-2)
+    (λ c. omega (arith, filled c)) (λ c. omega (arith, filled c)) (λ c. omega (arith, filled c)) returns-2)

@@ -19,16 +19,9 @@ four c =
 
 pub entry-spec : {M : Type 1} → statement M
 entry-spec =
-    tie.close
-    (tie.spec
-    (λ c. omega (arith, one c))
-    (λ c κs. one c .inside)
+    tie.close (tie.spec (λ c. omega (arith, one c)) (λ c κs. one c .inside)
     (λ c. c .get1 .ensures .0 ∙ one (c .before) .reads)
-    (λ c. omega (arith, two c))
-    (λ c. omega (arith, two c))
-    (λ c κs. two c .inside)
+    (λ c. omega (arith, two c)) (λ c. omega (arith, two c)) (λ c κs. two c .inside)
     (λ c. c .get2 .ensures .0 ∙ two (c .before) .reads)
-    (λ c. omega (arith, four c))
-    (λ c. omega (arith, four c))
-    (λ c κs. four c .inside)
+    (λ c. omega (arith, four c)) (λ c. omega (arith, four c)) (λ c κs. four c .inside)
     (λ c. c .get4 .ensures .0 ∙ four (c .before) .reads))

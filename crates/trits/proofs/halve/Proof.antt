@@ -61,18 +61,11 @@ loop-again-2 c = lower (c .before .before .before .before .loop .inv) (c .before
 
 pub halve-spec : {M : Type 1} → statement M
 halve-spec =
-    tie.close
-    (tie.spec
-    Inv-loop
-    μ-loop
+    tie.close (tie.spec Inv-loop μ-loop
     (λ c. omega (arith, room (c .before)))
     (λ c. room (c .before) .0)
     (λ c. omega (arith, room (c .before .before)))
-    loop-holds
-    add-mid
-    counted-requires
-    add-x
-    (λ c. omega arith)
+    loop-holds add-mid counted-requires add-x (λ c. omega arith)
     (λ c. omega (arith, c .before .before .before .loop-test))
     loop-again
     (λ c. omega (arith, c .before .before .before .loop-test))

@@ -29,9 +29,7 @@ left c =
 
 pub rank-spec : {M : Type 1} → statement M
 rank-spec =
-    tie.close
-    (tie.spec
-    (λ c κs. search needs)
+    tie.close (tie.spec (λ c κs. search needs)
     (λ c. rw (c .if1 .taken) (ap (λ r. r .zeros) (c .before .rank-both .ensures)))
     (λ c. rw (c .if2 .taken) (ap (λ r. r .ones) (c .before .before .rank-both .ensures)))
     (λ c. omega (arith, twos (c .before .before)))

@@ -50,14 +50,6 @@ fits c = let x = start (c .before .before .before .before) in omega (arith, summ
 
 pub rank-block-spec : {M : Type 1} → statement M
 rank-block-spec =
-    tie.close
-    (tie.spec
-    (λ c. search needs) (λ c. search needs) (λ c. search needs) (λ c. search needs) (λ c κs. search needs)
-    far-requires
-    (λ c κs. search needs)
-    middle-requires
-    (λ c κs. search needs)
-    near-requires
-    (λ c. omega (arith, fits c))
-    (λ c. omega (arith, fits c))
+    tie.close (tie.spec (λ c. search needs) (λ c. search needs) (λ c. search needs) (λ c. search needs) (λ c κs. search needs) far-requires
+    (λ c κs. search needs) middle-requires (λ c κs. search needs) near-requires (λ c. omega (arith, fits c)) (λ c. omega (arith, fits c))
     summed)

@@ -55,13 +55,10 @@ few c =
 
 pub rank-both-spec : {M : Type 1} → statement M
 rank-both-spec =
-    tie.close
-    (tie.spec
-    (λ c. search needs)
+    tie.close (tie.spec (λ c. search needs)
     (λ c κs. (laid c, lit< tt, omega arith))
     (λ c κs. (laid (c .before), lit< tt, omega (arith, c .before .before .pre)))
-    trytes-require
-    whole
+    trytes-require whole
     (λ c κs. let s = known (c .before) in (laid s, omega (arith, s .before .pre)))
     (λ c κs. (known (c .before .before) .before .pre .1, c .tryte .ensures .low, omega arith))
     (λ c. omega (arith, few (c .before .before) .0))

@@ -80,10 +80,7 @@ returns c =
 
 pub rank-trytes-spec : {M : Type 1} → statement M
 rank-trytes-spec =
-    tie.close
-    (tie.spec
-    Inv-loop
-    μ-loop
+    tie.close (tie.spec Inv-loop μ-loop
     (λ c. let x = c .before in omega (arith, x .pre .2, x .pre .4, few (x .pre .0 .whole)))
     nothing
     (λ c κs. let x = c .before .before in omega (arith, c .if1 .left, few (x .pre .0 .whole), trits-is (x .pre .0)))
@@ -94,8 +91,4 @@ rank-trytes-spec =
     (λ c. omega (arith, there (c .before .before .before)))
     (λ c. omega (arith, small (c .before .before .before .before .before), c .before .before .tryte-count .ensures))
     (λ c. omega (arith, small (c .before .before .before .before .before), c .before .tryte-count2 .ensures))
-    (λ c. omega arith)
-    loop-again
-    (λ c. omega arith)
-    loop-again-2
-    returns)
+    (λ c. omega arith) loop-again (λ c. omega arith) loop-again-2 returns)

@@ -15,4 +15,7 @@ returns c =
     tryte-is (x .pre .0 .whole) (x .args .q) (x .pre .1) (rw (at1-is (x .pre .0)) at (c .wide .ensures .0))
 
 pub tryte-spec : {M : Type 1} → statement M
-tryte-spec = tie.close (tie.spec (λ c. omega (arith, at1-is (c .before .pre .0), few (c .before .pre .0 .whole))) inside (λ c κs. search needs) returns)
+tryte-spec =
+    tie.close (tie.spec
+    (λ c. omega (arith, at1-is (c .before .pre .0), few (c .before .pre .0 .whole)))
+    inside (λ c κs. search needs) returns)

@@ -22,15 +22,8 @@ loop-again c =
 
 pub put-roots-spec : {M : Type 1} → statement M
 put-roots-spec =
-    tie.close
-    (tie.spec
-    Inv-loop
-    μ-loop
+    tie.close (tie.spec Inv-loop μ-loop
     (λ c. listed-none _ _ _ (c .before .pre .0))
-    (λ c. omega arith)
-    (λ c. omega arith)
-    put-word-requires
-    (λ c. omega arith)
-    loop-again
+    (λ c. omega arith) (λ c. omega arith) put-word-requires (λ c. omega arith) loop-again
     (λ c. listed-length (c .before .loop .inv))
     (λ c. listed-all (c .before .loop .inv) (c .loop-test .left)))

@@ -52,17 +52,10 @@ returns c =
 
 pub put-rows-spec : {M : Type 1} → statement M
 put-rows-spec =
-    tie.close
-    (tie.spec
-    Inv-loop
-    μ-loop
+    tie.close (tie.spec Inv-loop μ-loop
     (λ c κs. omega (arith, sizes (c .before .before .before .pre .0)))
     (λ c. omega (arith, sizes (c .before .before .before .before .before .before .pre .0)))
-    loop-holds
-    put-trit-requires
-    (λ c. omega arith)
-    (λ c. omega arith)
-    loop-again
+    loop-holds put-trit-requires (λ c. omega arith) (λ c. omega arith) loop-again
     (λ c. omega (arith, sizes (start (c .before) .pre .0)))
     put-word-requires-2
     (λ c. omega (arith, filled-length (c .before .before .before .before .before .loop .inv .filled)))

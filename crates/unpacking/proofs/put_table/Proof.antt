@@ -27,5 +27,4 @@ returns c =
     ∙ roots-last (o .pre .0) (o .args .table .now) (o .pre .1)
 
 pub put-table-spec : {M : Type 1} → statement M
-put-table-spec =
-    tie.close (tie.spec sub-at (λ c. search needs) (λ c κs. search needs) put-roots-requires (λ c. search needs) returns)
+put-table-spec = tie.close (tie.spec sub-at (λ c. search needs) (λ c κs. search needs) put-roots-requires (λ c. search needs) returns)

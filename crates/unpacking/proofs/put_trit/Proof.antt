@@ -64,25 +64,15 @@ returns-3 c =
 
 pub put-trit-spec : {M : Type 1} → statement M
 put-trit-spec =
-    tie.close
-    (tie.spec
-    trit-at-requires
+    tie.close (tie.spec trit-at-requires
     (λ c. omega (arith, last (c .before .before .before .before .pre .0)))
     (λ c. omega (arith, last (c .before .before .before .before .pre .0)))
     (λ c. omega (arith, last (c .before .before .before .before .pre .0)))
     (λ c. omega (arith, last (c .before .before .before .before .pre .0)))
-    put-word-requires
-    (λ c. search needs)
-    returns
-    (λ c. search needs) (λ c. search needs)
-    (λ c. omega (arith, few c))
+    put-word-requires (λ c. search needs) returns (λ c. search needs) (λ c. search needs) (λ c. omega (arith, few c))
     (λ c κs. omega (arith, few (c .before)))
-    (λ c. search needs)
-    returns-2
-    (λ c. omega (arith, inside c))
+    (λ c. search needs) returns-2 (λ c. omega (arith, inside c))
     (λ c. omega (arith, inside (c .before)))
-    (λ c κs. inside (c .before))
-    (λ c κs. search needs)
+    (λ c κs. inside (c .before)) (λ c κs. search needs)
     (λ c. omega (arith, inside (c .before .before .before .before .before .before)))
-    (λ c. search needs)
-    returns-3)
+    (λ c. search needs) returns-3)

@@ -39,12 +39,5 @@ returns-3 c =
 
 pub unpack-spec : {M : Type 1} → statement M
 unpack-spec =
-    tie.close
-    (tie.spec
-    (λ c κs. search needs) (λ c. search needs) (λ c. search needs)
-    returns
-    put-table-requires
-    (λ c. omega arith)
-    returns-2
-    (λ c. search needs)
-    returns-3)
+    tie.close (tie.spec (λ c κs. search needs) (λ c. search needs) (λ c. search needs) returns put-table-requires (λ c. omega arith)
+    returns-2 (λ c. search needs) returns-3)

@@ -45,16 +45,8 @@ returns c =
 
 pub ask-all-spec : {M : Type 1} → statement M
 ask-all-spec =
-    tie.close
-    (tie.spec
-    Inv-loop
-    μ-loop
-    loop-holds
-    (λ c. omega arith)
-    ask-one-requires
+    tie.close (tie.spec Inv-loop μ-loop loop-holds (λ c. omega arith) ask-one-requires
     (λ c. omega (arith, answered-few (turn (c .before .before))))
-    (λ c. omega arith)
-    (λ c. omega arith)
-    (λ c. turn (c .before .before))
+    (λ c. omega arith) (λ c. omega arith) (λ c. turn (c .before .before))
     (λ c. answered-length (c .before .loop .inv))
     returns)

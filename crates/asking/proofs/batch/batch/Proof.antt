@@ -38,12 +38,6 @@ full c =
 
 pub batch-spec : {M : Type 1} → statement M
 batch-spec =
-    tie.close
-    (tie.spec
-    not-threes
-    too-short
-    (λ c κs. search needs)
-    run-requires
-    (λ c. search needs)
+    tie.close (tie.spec not-threes too-short (λ c κs. search needs) run-requires (λ c. search needs)
     (λ c. c .before .before .run .ensures)
     full)

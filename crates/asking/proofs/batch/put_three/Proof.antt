@@ -14,9 +14,5 @@ slice-write-answers-2 c = simp length-set (omega (arith, c .pre))
 
 pub put-three-spec : {M : Type 1} → statement M
 put-three-spec =
-    tie.close
-    (tie.spec
-    (λ c. search needs) (λ c. search needs) (λ c. search needs) (λ c. search needs)
-    slice-write-answers-2
-    (λ c. search needs) (λ c. search needs) (λ c. search needs) (λ c. search needs)
-    returns)
+    tie.close (tie.spec (λ c. search needs) (λ c. search needs) (λ c. search needs) (λ c. search needs) slice-write-answers-2
+    (λ c. search needs) (λ c. search needs) (λ c. search needs) (λ c. search needs) returns)

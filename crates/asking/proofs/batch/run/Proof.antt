@@ -57,11 +57,5 @@ ran c =
 
 pub run-spec : {M : Type 1} → statement M
 run-spec =
-    tie.close
-    (tie.spec
-    (λ c κs. search needs) (λ c. search needs) (λ c. search needs) (λ c κs. search needs)
-    ask-all-requires
-    count-requires
-    refuses
-    (λ c. search needs)
-    ran)
+    tie.close (tie.spec (λ c κs. search needs) (λ c. search needs) (λ c. search needs) (λ c κs. search needs) ask-all-requires
+    count-requires refuses (λ c. search needs) ran)

@@ -14,9 +14,7 @@ few c = let x = c .args .w % ((1 * 2 ^ c .args .i) % 2 ^ 64) in ones-le 64 x (om
 
 pub ones-below-spec : {M : Type 1} → statement M
 ones-below-spec =
-    tie.close
-    (tie.spec
-    (λ c. search needs)
+    tie.close (tie.spec (λ c. search needs)
     (λ c. shifted-pos (c .args .i) (c .pre))
     (λ c. omega (arith, few c))
     (λ c. (ap (λ d. ones (c .args .w % d)) (one-shifted (c .args .i) (c .pre)), omega (arith, few c))))

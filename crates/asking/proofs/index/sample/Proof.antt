@@ -14,5 +14,5 @@ here c = let x = c .before in entry-9 (x .pre .0) (x .args .q) (x .pre .1)
 
 pub sample-spec : {M : Type 1} → statement M
 sample-spec =
-    tie.close
-    (tie.spec (λ c. omega (arith, here c)) (λ c. omega (arith, here c)) (λ c κs. here c .inside) (λ c. (c .get2 .ensures .0 ∙ here (c .before) .reads, c .get2 .ensures .1)))
+    tie.close (tie.spec (λ c. omega (arith, here c)) (λ c. omega (arith, here c)) (λ c κs. here c .inside)
+    (λ c. (c .get2 .ensures .0 ∙ here (c .before) .reads, c .get2 .ensures .1)))

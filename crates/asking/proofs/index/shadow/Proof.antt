@@ -13,5 +13,5 @@ here c = let x = c .before in entry-2 (x .pre .0) (x .args .i) (x .pre .1)
 
 pub shadow-spec : {M : Type 1} → statement M
 shadow-spec =
-    tie.close
-    (tie.spec (λ c. omega (arith, here c)) (λ c. omega (arith, here c)) (λ c κs. here c .inside) (λ c. c .get2 .ensures .0 ∙ here (c .before) .reads))
+    tie.close (tie.spec (λ c. omega (arith, here c)) (λ c. omega (arith, here c)) (λ c κs. here c .inside)
+    (λ c. c .get2 .ensures .0 ∙ here (c .before) .reads))

@@ -14,5 +14,5 @@ here c = let x = c .before in entry-4 (x .pre .0) (x .args .j) (x .pre .1)
 
 pub start-spec : {M : Type 1} → statement M
 start-spec =
-    tie.close
-    (tie.spec (λ c. omega (arith, here c)) (λ c. omega (arith, here c)) (λ c κs. here c .inside) (λ c. c .get4 .ensures .0 ∙ here (c .before) .reads))
+    tie.close (tie.spec (λ c. omega (arith, here c)) (λ c. omega (arith, here c)) (λ c κs. here c .inside)
+    (λ c. c .get4 .ensures .0 ∙ here (c .before) .reads))

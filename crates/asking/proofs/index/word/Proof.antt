@@ -14,5 +14,5 @@ here c = let x = c .before in entry-3 (x .pre .0) (x .args .q) (x .pre .1)
 
 pub word-spec : {M : Type 1} → statement M
 word-spec =
-    tie.close
-    (tie.spec (λ c. omega (arith, here c)) (λ c. omega (arith, here c)) (λ c κs. here c .inside) (λ c. c .get8 .ensures ∙ here (c .before) .reads))
+    tie.close (tie.spec (λ c. omega (arith, here c)) (λ c. omega (arith, here c)) (λ c κs. here c .inside)
+    (λ c. c .get8 .ensures ∙ here (c .before) .reads))

@@ -31,14 +31,8 @@ returns-4 c = rw (c .before .match .keys3) (c .selected .ensures)
 
 pub answer-spec : {M : Type 1} → statement M
 answer-spec =
-    tie.close
-    (tie.spec
-    unknown
-    (λ c κs. laid (c .before .before))
+    tie.close (tie.spec unknown (λ c κs. laid (c .before .before))
     (λ c κs. (laid (c .before .before), c .before .before .before .pre .1))
     (λ c κs. (laid (c .before .before), c .before .before .before .pre .1))
     (λ c κs. (laid (c .before .before), c .before .before .before .pre .1, omega (arith, c .match .rest), omega (arith, c .before .if1 .left)))
-    returns-2
-    returns-3
-    returns-4
-    (λ c. c .of-node .ensures))
+    returns-2 returns-3 returns-4 (λ c. c .of-node .ensures))

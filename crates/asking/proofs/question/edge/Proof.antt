@@ -45,13 +45,9 @@ shadow c =
 
 pub edge-spec : {M : Type 1} → statement M
 edge-spec =
-    tie.close
-    (tie.spec
+    tie.close (tie.spec
     (λ c. omega (arith, few (c .before)))
     (λ c κs. omega (arith, few (c .before)))
-    real
-    (λ c. omega (arith, left c .room))
-    (λ c. omega (arith, left c .room))
+    real (λ c. omega (arith, left c .room)) (λ c. omega (arith, left c .room))
     (λ c κs. (c .before .before .pre .0, left c .inside (two c)))
-    shadow-listed
-    shadow)
+    shadow-listed shadow)

@@ -49,15 +49,9 @@ returns-6 c =
 
 pub of-node-spec : {M : Type 1} → statement M
 of-node-spec =
-    tie.close
-    (tie.spec
-    no-node
-    past-nodes
+    tie.close (tie.spec no-node past-nodes
     (λ c κs. (node (c .before), c .before .before .before .before .pre .1))
     (λ c κs. (node (c .before), c .before .before .before .before .pre .1))
     (λ c κs. node (c .before))
     (λ c κs. (node (c .before), c .before .before .before .before .pre .1))
-    returns-3
-    returns-4
-    returns-5
-    returns-6)
+    returns-3 returns-4 returns-5 returns-6)

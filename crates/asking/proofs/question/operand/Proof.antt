@@ -71,16 +71,5 @@ there c =
 
 pub operand-spec : {M : Type 1} → statement M
 operand-spec =
-    tie.close
-    (tie.spec
-    no-zeroth
-    place-requires
-    sub-trits
-    past-end
-    (λ c. omega (arith, inside c))
-    trit-requires
-    at-zero
-    rank-requires
-    other-node
-    edge-requires
-    there)
+    tie.close (tie.spec no-zeroth place-requires sub-trits past-end (λ c. omega (arith, inside c)) trit-requires at-zero rank-requires
+    other-node edge-requires there)

@@ -46,13 +46,5 @@ returns c =
 
 pub operands-spec : {M : Type 1} → statement M
 operands-spec =
-    tie.close
-    (tie.spec
-    second-outside
-    place-requires
-    add-place
-    next-requires
-    (λ c. omega (arith, apart c))
-    (λ c. omega (arith, apart c))
-    value-requires
-    returns)
+    tie.close (tie.spec second-outside place-requires add-place next-requires (λ c. omega (arith, apart c)) (λ c. omega (arith, apart c))
+    value-requires returns)

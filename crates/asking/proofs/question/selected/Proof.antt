@@ -39,4 +39,5 @@ returns : tie.Need-returns-3
 returns c = c .value .ensures ∙ select-value _ _ _ (omega (arith, c .before .before .before .before .before .if1 .left)) (found (c .before))
 
 pub selected-spec : {M : Type 1} → statement M
-selected-spec = tie.close (tie.spec first-outside select-requires (λ c. search needs) (λ c. search needs) second-outside value-requires returns)
+selected-spec =
+    tie.close (tie.spec first-outside select-requires (λ c. search needs) (λ c. search needs) second-outside value-requires returns)

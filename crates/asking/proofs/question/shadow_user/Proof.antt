@@ -57,15 +57,8 @@ there c =
 
 pub shadow-user-spec : {M : Type 1} → statement M
 shadow-user-spec =
-    tie.close
-    (tie.spec
+    tie.close (tie.spec
     (λ c. omega (arith, c .before .pre .0 .low))
-    group-requires
-    (λ c. omega (arith, counted c))
-    past
+    group-requires (λ c. omega (arith, counted c)) past
     (λ c. omega (arith, c .before .before .before .pre .2))
-    add-place
-    place-requires
-    rank-requires
-    listed-requires
-    there)
+    add-place place-requires rank-requires listed-requires there)

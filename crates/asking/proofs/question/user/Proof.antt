@@ -62,15 +62,6 @@ real c =
 
 pub user-spec : {M : Type 1} → statement M
 user-spec =
-    tie.close
-    (tie.spec
-    no-zeroth
-    root-requires
-    of-root
+    tie.close (tie.spec no-zeroth root-requires of-root
     (λ c. omega (arith, c .before .before .if1 .left))
-    other-requires
-    of-other
-    place-requires
-    rank-requires
-    listed-requires
-    real)
+    other-requires of-other place-requires rank-requires listed-requires real)

@@ -45,14 +45,8 @@ root c =
 
 pub uses-spec : {M : Type 1} → statement M
 uses-spec =
-    tie.close
-    (tie.spec
-    second-outside
+    tie.close (tie.spec second-outside
     (λ c. omega (arith, c .before .before .pre .low))
-    group-requires
-    (λ c. omega (arith, counted c))
+    group-requires (λ c. omega (arith, counted c))
     (λ c. omega (arith, counted (c .before), shadows-few (right (c .before .before .before .before .pre .laid))))
-    real-requires
-    real
-    root-requires
-    root)
+    real-requires real root-requires root)

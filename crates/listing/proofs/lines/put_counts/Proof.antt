@@ -14,8 +14,7 @@ laid c = let p = c .before .before .pre in accepted (c .shared-slice-known .give
 
 pub put-counts-spec : {M : Type 1} → statement M
 put-counts-spec =
-    tie.close
-    (tie.spec
+    tie.close (tie.spec
     (λ c. omega (arith, counts-small (laid (c .before))))
     (λ c. omega (arith, edges-are (laid (c .before .before))))
     (λ c. search needs) (λ c. search needs) (λ c. search needs)

@@ -19,9 +19,7 @@ node c =
 
 pub put-neighbour-spec : {M : Type 1} → statement M
 put-neighbour-spec =
-    tie.close
-    (tie.spec
-    (λ c κs. search needs) (λ c. search needs) (λ c. search needs)
+    tie.close (tie.spec (λ c κs. search needs) (λ c. search needs) (λ c. search needs)
     (λ c κs.
     let v = c .before .before in
     let x = v .before .before in

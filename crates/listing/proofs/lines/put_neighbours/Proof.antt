@@ -39,11 +39,7 @@ turn c = part-next _ _ _ (c .before .before .loop .inv) (c .before .loop-test .t
 
 pub put-neighbours-spec : {M : Type 1} → statement M
 put-neighbours-spec =
-    tie.close
-    (tie.spec
-    Inv-loop
-    μ-loop
-    (λ c. search needs) (λ c κs. search needs) (λ c κs. search needs)
+    tie.close (tie.spec Inv-loop μ-loop (λ c. search needs) (λ c κs. search needs) (λ c κs. search needs)
     (λ c κs. let x = c .before .before .before .before .before .before in fits (begin-two (x .args .sign .now) _ (x .pre .2)))
     (λ c.
     let s = c .before .before in
@@ -51,8 +47,7 @@ put-neighbours-spec =
     begin-neighbours _ _ _ (v .value .ensures ∙ ap (λ (r : Reply). r .value) (v .before .answer .ensures)) (fits (marked s)))
     (λ c. search needs)
     (λ c κs. let p = start (c .before .before .before .before) .pre .0 in (p .proper, p .trytes, p .laid))
-    (λ c κs. fits (turn (c .before)))
-    (λ c. omega arith)
+    (λ c κs. fits (turn (c .before))) (λ c. omega arith)
     (λ c. let w = c .before .before in next (turn (w .before .before)) (w .put-neighbour .ensures))
     (λ c. left-length (c .before .loop .inv) ∙ c .before .before .before .before .put-word .kept .0)
     (λ c. finish (next (marked (c .before .before .before .before)) (parts-done _ _ _ (c .before .loop .inv) (c .loop-test .left)))))

@@ -22,8 +22,7 @@ listed c =
 
 pub put-node-spec : {M : Type 1} → statement M
 put-node-spec =
-    tie.close
-    (tie.spec
+    tie.close (tie.spec
     (λ c κs. let x = c .before .before .before in fits (begin-node (x .args .image .now) (x .args .i) (x .pre .1) (x .pre .2) (x .pre .3)))
     (λ c. search needs)
     (λ c κs.

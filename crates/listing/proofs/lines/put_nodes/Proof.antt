@@ -26,10 +26,7 @@ small c = let p = c .before .before .pre .0 in omega (arith, counts-small (accep
 
 pub put-nodes-spec : {M : Type 1} → statement M
 put-nodes-spec =
-    tie.close
-    (tie.spec
-    Inv-loop
-    μ-loop
+    tie.close (tie.spec Inv-loop μ-loop
     (λ c. omega (arith, small (c .before)))
     (λ c. let x = c .before .before .before in begin-nodes _ (x .pre .0 .laid) (x .pre .1))
     (λ c. omega (arith, small (c .before .before .before)))

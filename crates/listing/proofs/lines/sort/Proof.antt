@@ -8,9 +8,7 @@ use Rattle.listing.proofs.lines.sort.Tie as tie
 
 pub sort-spec : {M : Type 1} → statement M
 sort-spec =
-    tie.close
-    (tie.spec
-    (λ c. search needs) (λ c. search needs) (λ c κs. search needs) (λ c. search needs)
+    tie.close (tie.spec (λ c. search needs) (λ c. search needs) (λ c κs. search needs) (λ c. search needs)
     (λ c. sym (ap (λ (a : Answer). answerNumbers a .sort) (c .before .found .given .1)))
     (λ c. c .sort-number .ensures ∙ sym (ap (λ (a : Answer). answerNumbers a .sort) (c .before .before .found2 .given .1)))
     (λ c. sym (ap (λ (a : Answer). answerNumbers a .sort) (c .before .found3 .given .1))))

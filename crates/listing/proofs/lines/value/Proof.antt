@@ -8,7 +8,5 @@ use Rattle.listing.proofs.lines.value.Tie as tie
 
 pub value-spec : {M : Type 1} → statement M
 value-spec =
-    tie.close
-    (tie.spec
-    (λ c. search needs) (λ c. search needs) (λ c. search needs) (λ c. search needs) (λ c. search needs)
+    tie.close (tie.spec (λ c. search needs) (λ c. search needs) (λ c. search needs) (λ c. search needs) (λ c. search needs)
     (λ c. sym (ap (λ (a : Answer). answerNumbers a .value) (c .before .found3 .given .1))))

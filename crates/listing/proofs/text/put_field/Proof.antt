@@ -7,8 +7,7 @@ use Rattle.listing.proofs.text.put_field.Tie as tie
 
 pub put-field-spec : {M : Type 1} → statement M
 put-field-spec =
-    tie.close
-    (tie.spec
+    tie.close (tie.spec
     (λ c κs. let x = c .before .before .before in fits (begin-two (x .args .word .now) (decimal (x .args .x)) (x .pre)))
     (λ c κs.
     let w = c .before .before .before in

@@ -6,9 +6,7 @@ use Rattle.listing.proofs.text.put_refusal.Tie as tie
 
 pub put-refusal-spec : {M : Type 1} → statement M
 put-refusal-spec =
-    tie.close
-    (tie.spec
-    (λ c κs. search needs) (λ c. search needs) (λ c. search needs)
+    tie.close (tie.spec (λ c κs. search needs) (λ c. search needs) (λ c. search needs)
     (λ c κs. let n = c .before .before in fits (begin-refusal (n .number .ensures) (n .before .before .pre)))
     (λ c. search needs)
     (λ c κs.

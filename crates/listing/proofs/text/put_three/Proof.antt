@@ -14,8 +14,7 @@ start c = begin _ refl (c .before .pre)
 
 pub put-three-spec : {M : Type 1} → statement M
 put-three-spec =
-    tie.close
-    (tie.spec
+    tie.close (tie.spec
     (λ c κs. fits (start (c .before .before .before .before)))
     (λ c κs. let f = c .before .before .before in fits (next (start (f .before .before .before .before .before)) (f .put-field .ensures)))
     (λ c κs.

@@ -14,16 +14,9 @@ abbrev μ-loop : tie.MeasureT-loop
 
 pub put-word-spec : {M : Type 1} → statement M
 put-word-spec =
-    tie.close
-    (tie.spec
-    Inv-loop
-    μ-loop
-    (λ c. copied-none (c .pre))
-    (λ c. omega arith)
-    (λ c. omega arith)
+    tie.close (tie.spec Inv-loop μ-loop (λ c. copied-none (c .pre)) (λ c. omega arith) (λ c. omega arith)
     (λ c. omega (arith, copied-length (c .before .before .loop .inv)))
-    (λ c. omega arith)
-    (λ c. omega arith)
+    (λ c. omega arith) (λ c. omega arith)
     (λ c. copied-next (c .before .before .loop .inv) (c .before .loop-test .taken))
     (λ c. omega arith)
     (λ c. copied-length (c .before .loop .inv))

@@ -69,12 +69,9 @@ returns c =
 
 pub put-image-spec : {M : Type 1} → statement M
 put-image-spec =
-    tie.close
-    (tie.spec
-    (λ c κs. search needs) (λ c κs. search needs) (λ c. search needs) (λ c. search needs) (λ c. search needs)
+    tie.close (tie.spec (λ c κs. search needs) (λ c κs. search needs) (λ c. search needs) (λ c. search needs) (λ c. search needs)
     (λ c κs. let u = c .before .before .before .before .before in (_, _, walk-put (walked u) .laid, uses u))
     (λ c κs. (_, _, marks-put (c .before .before .before)))
     (λ c. search needs) (λ c. search needs) (λ c. search needs)
     (λ c κs. let s = c .before .before .before .before in (_, _, samples-put s, uses (used (marked s))))
-    (λ c. search needs) (λ c. search needs)
-    returns)
+    (λ c. search needs) (λ c. search needs) returns)

@@ -44,8 +44,7 @@ returns c =
 
 pub put-level-spec : {M : Type 1} → statement M
 put-level-spec =
-    tie.close
-    (tie.spec
+    tie.close (tie.spec
     (λ c. omega (arith, within (c .before .before .pre .2 .laid)))
     (λ c. omega (arith, within (c .before .before .before .pre .2 .laid)))
     (λ c. search needs)
@@ -54,6 +53,4 @@ put-level-spec =
     let d = x .pre .2 .laid in
     omega (arith, sized d .trits-are, d .proper .length-high, div-le-self (x .args .lay .trits) (x .args .step)))
     (λ c κs. let x = c .before .before .before in omega (arith, x .pre .3 .room, within (x .pre .2 .laid)))
-    put-samples-requires
-    (λ c. search needs)
-    returns)
+    put-samples-requires (λ c. search needs) returns)

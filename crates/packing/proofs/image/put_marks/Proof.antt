@@ -58,8 +58,7 @@ returns c =
 
 pub put-marks-spec : {M : Type 1} → statement M
 put-marks-spec =
-    tie.close
-    (tie.spec
+    tie.close (tie.spec
     (λ c. omega (arith, fit (c .before .before .before)))
     (λ c. omega (arith, fit (c .before .before .before .before)))
     (λ c κs. omega (arith, fit (c .before .before .before .before)))
@@ -82,6 +81,4 @@ put-marks-spec =
     (λ c κs. omega (arith, fit (starts (c .before .before .before))))
     (λ c. search needs) (λ c. search needs)
     (λ c. omega (arith, fit (starts (c .before .before .before .before .before .before))))
-    put-mark-samples-requires
-    (λ c. search needs)
-    returns)
+    put-mark-samples-requires (λ c. search needs) returns)

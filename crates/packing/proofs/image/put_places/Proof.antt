@@ -36,12 +36,9 @@ returns c =
 
 pub put-places-spec : {M : Type 1} → statement M
 put-places-spec =
-    tie.close
-    (tie.spec
+    tie.close (tie.spec
     (λ c κs. let p = c .before .before .before .pre in (p .0, p .1, p .3, omega (arith, p .2 .laid .few)))
     (λ c. omega (arith, within (start (c .before .before .before) .pre .2 .laid)))
     (λ c. omega (arith, within (start (c .before .before .before .before) .pre .2 .laid)))
     (λ c κs. omega (arith, within (start (c .before .before .before .before) .pre .2 .laid)))
-    put-places-requires
-    (λ c. search needs) (λ c. search needs)
-    returns)
+    put-places-requires (λ c. search needs) (λ c. search needs) returns)

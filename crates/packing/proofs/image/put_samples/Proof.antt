@@ -48,4 +48,5 @@ returns c =
     samples-put (s .laid) (a .0) (b .0) (e .0)
 
 pub put-samples-spec : {M : Type 1} → statement M
-put-samples-spec = tie.close (tie.spec (λ c κs. search needs) put-level-requires put-level-requires-2 put-level-requires-3 (λ c. search needs) returns)
+put-samples-spec =
+    tie.close (tie.spec (λ c κs. search needs) put-level-requires put-level-requires-2 put-level-requires-3 (λ c. search needs) returns)

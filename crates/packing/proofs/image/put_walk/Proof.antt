@@ -43,8 +43,7 @@ returns c =
 
 pub put-walk-spec : {M : Type 1} → statement M
 put-walk-spec =
-    tie.close
-    (tie.spec
+    tie.close (tie.spec
     (λ c. roots-from (c .before .before .before .before .pre) .0)
     (λ c. omega (arith, fit (c .before .before .before .before .before)))
     (λ c. omega (arith, fit (c .before .before .before .before .before .before)))
@@ -59,6 +58,4 @@ put-walk-spec =
     (λ c. omega (arith, fit (count2 (c .before .before))))
     (λ c. omega (arith, fit (count2 (c .before .before))))
     (λ c. omega (arith, fit (count2 (c .before .before))))
-    put-shadows-requires
-    (λ c. search needs)
-    returns)
+    put-shadows-requires (λ c. search needs) returns)

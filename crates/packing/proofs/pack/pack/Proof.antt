@@ -40,4 +40,5 @@ returns-4 c = c .before .before .before .before .before .before .pack-nodes .ens
 
 pub pack-spec : {M : Type 1} → statement M
 pack-spec =
-    tie.close (tie.spec (λ c κs. search needs) (λ c. search needs) (λ c. search needs) mul-if1 returns returns-2 pack-nodes-requires returns-3 (λ c. search needs) (λ c. search needs) (λ c. search needs) returns-4)
+    tie.close (tie.spec (λ c κs. search needs) (λ c. search needs) (λ c. search needs) mul-if1 returns returns-2 pack-nodes-requires
+    returns-3 (λ c. search needs) (λ c. search needs) (λ c. search needs) returns-4)

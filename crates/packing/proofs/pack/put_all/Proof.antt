@@ -54,4 +54,6 @@ returns-2 c =
 
 pub put-all-spec : {M : Type 1} → statement M
 put-all-spec =
-    tie.close (tie.spec (λ c κs. search needs) add-uses add-total add-total-2 sub-shadows lay-out-requires (λ c. search needs) (λ c. search needs) add-size-2 (λ c. search needs) returns (λ c κs. search needs) put-image-requires (λ c. search needs) (λ c. search needs) (λ c. search needs) returns-2)
+    tie.close (tie.spec (λ c κs. search needs) add-uses add-total add-total-2 sub-shadows lay-out-requires (λ c. search needs)
+    (λ c. search needs) add-size-2 (λ c. search needs) returns (λ c κs. search needs) put-image-requires (λ c. search needs)
+    (λ c. search needs) (λ c. search needs) returns-2)

@@ -82,4 +82,6 @@ returns c = all-shadows (c .before .loop .inv) (omega (arith, length-trits (c .b
 
 pub put-shadows-spec : {M : Type 1} → statement M
 put-shadows-spec =
-    tie.close (tie.spec Inv-loop μ-loop sub-total (λ c κs. search needs) loop-holds (λ c. search needs) step-requires (λ c. search needs) put2-requires add-p (λ c. search needs) loop-again (λ c. search needs) (λ c. search needs) loop-again-2 (λ c. search needs) (λ c. search needs) loop-again-3 (λ c. search needs) (λ c. search needs) loop-again-4 same-length returns)
+    tie.close (tie.spec Inv-loop μ-loop sub-total (λ c κs. search needs) loop-holds (λ c. search needs) step-requires (λ c. search needs)
+    put2-requires add-p (λ c. search needs) loop-again (λ c. search needs) (λ c. search needs) loop-again-2 (λ c. search needs)
+    (λ c. search needs) loop-again-3 (λ c. search needs) (λ c. search needs) loop-again-4 same-length returns)

@@ -48,4 +48,5 @@ returns c = let w = c .before .loop .inv .written in over-whole w (omega (arith,
 
 pub put-trytes-spec : {M : Type 1} → statement M
 put-trytes-spec =
-    tie.close (tie.spec Inv-loop μ-loop (λ c κs. search needs) loop-holds next-tryte-requires (λ c. search needs) (λ c. search needs) (λ c. search needs) loop-less loop-again same-length returns)
+    tie.close (tie.spec Inv-loop μ-loop (λ c κs. search needs) loop-holds next-tryte-requires (λ c. search needs) (λ c. search needs)
+    (λ c. search needs) loop-less loop-again same-length returns)

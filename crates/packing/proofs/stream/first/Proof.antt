@@ -20,5 +20,4 @@ returns : tie.Need-returns
 returns c = let p = c .before .before .before .pre in begin (p .0) _ (p .1) _ (c .word .ensures .0)
 
 pub first-spec : {M : Type 1} → statement M
-first-spec =
-    tie.close (tie.spec word-requires add-t6 returns)
+first-spec = tie.close (tie.spec word-requires add-t6 returns)

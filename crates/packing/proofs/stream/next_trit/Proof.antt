@@ -33,4 +33,5 @@ returns-4 c =
 
 pub next-trit-spec : {M : Type 1} → statement M
 next-trit-spec =
-    tie.close (tie.spec (λ c κs. search needs) (λ c. search needs) (λ c. search needs) (λ c. search needs) (λ c. search needs) returns returns-2 returns-3 returns-4)
+    tie.close (tie.spec (λ c κs. search needs) (λ c. search needs) (λ c. search needs) (λ c. search needs) (λ c. search needs) returns
+    returns-2 returns-3 returns-4)

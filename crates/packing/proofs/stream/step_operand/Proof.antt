@@ -37,4 +37,5 @@ returns-2 c =
 
 pub step-operand-spec : {M : Type 1} → statement M
 step-operand-spec =
-    tie.close (tie.spec (λ c κs. search needs) (λ c. search needs) sub-entry entry-requires add-if1 (λ c. search needs) (λ c. search needs) returns (λ c. search needs) (λ c. search needs) returns-2)
+    tie.close (tie.spec (λ c κs. search needs) (λ c. search needs) sub-entry entry-requires add-if1 (λ c. search needs) (λ c. search needs)
+    returns (λ c. search needs) (λ c. search needs) returns-2)

@@ -29,4 +29,5 @@ returns c =
 
 pub step-row-spec : {M : Type 1} → statement M
 step-row-spec =
-    tie.close (tie.spec (λ c. search needs) (λ c. search needs) (λ c κs. search needs) sub-entry entry-requires-2 word-requires (λ c. search needs) (λ c. search needs) returns)
+    tie.close (tie.spec (λ c. search needs) (λ c. search needs) (λ c κs. search needs) sub-entry entry-requires-2 word-requires
+    (λ c. search needs) (λ c. search needs) returns)

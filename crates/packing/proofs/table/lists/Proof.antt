@@ -53,4 +53,5 @@ returns-4 c =
 
 pub lists-spec : {M : Type 1} → statement M
 lists-spec =
-    tie.close (tie.spec Inv-loop μ-loop (λ c. search needs) returns (λ c κs. search needs) (λ c. search needs) returns-2 (λ c. search needs) (λ c κs. search needs) (λ c. search needs) returns-3 (λ c. search needs) (λ c. search needs) (λ c. search needs) loop-again returns-4)
+    tie.close (tie.spec Inv-loop μ-loop (λ c. search needs) returns (λ c κs. search needs) (λ c. search needs) returns-2 (λ c. search needs)
+    (λ c κs. search needs) (λ c. search needs) returns-3 (λ c. search needs) (λ c. search needs) (λ c. search needs) loop-again returns-4)

@@ -82,20 +82,7 @@ returns-4 c =
 
 pub roots-spec : {M : Type 1} → statement M
 roots-spec =
-    tie.close
-    (tie.spec
-    Inv-loop
-    μ-loop
-    loop-holds
-    returns
-    (λ c κs. search needs) (λ c κs. search needs)
-    returns-2
-    (λ c. search needs)
-    (λ c. omega (arith, small c))
-    (λ c κs. search needs)
-    returns-3
-    (λ c κs. search needs) (λ c. search needs)
+    tie.close (tie.spec Inv-loop μ-loop loop-holds returns (λ c κs. search needs) (λ c κs. search needs) returns-2 (λ c. search needs)
+    (λ c. omega (arith, small c)) (λ c κs. search needs) returns-3 (λ c κs. search needs) (λ c. search needs)
     (λ c. omega (arith, small (c .before .before .before)))
-    (λ c. search needs) (λ c. search needs) (λ c. search needs)
-    loop-again
-    returns-4)
+    (λ c. search needs) (λ c. search needs) (λ c. search needs) loop-again returns-4)

@@ -36,4 +36,5 @@ returns-4 c =
 
 pub scan-spec : {M : Type 1} → statement M
 scan-spec =
-    tie.close (tie.spec returns (λ c κs. search needs) returns-2 (λ c κs. search needs) (λ c. search needs) (λ c. search needs) ending-requires returns-3 returns-4)
+    tie.close (tie.spec returns (λ c κs. search needs) returns-2 (λ c κs. search needs) (λ c. search needs) (λ c. search needs)
+    ending-requires returns-3 returns-4)

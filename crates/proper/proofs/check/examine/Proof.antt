@@ -97,17 +97,6 @@ returns-6 c =
 
 pub examine-spec : {M : Type 1} → statement M
 examine-spec =
-    tie.close
-    (tie.spec
-    returns
-    (λ c κs. search needs)
-    returns-2
-    returns-3
-    (λ c. search needs) (λ c. search needs)
-    returns-4
-    (λ c κs. search needs)
-    section1-requires
-    (λ c. search needs) (λ c. search needs) (λ c κs. search needs)
-    (λ c κs. passed (c .before .before))
-    returns-5
-    returns-6)
+    tie.close (tie.spec returns (λ c κs. search needs) returns-2 returns-3 (λ c. search needs) (λ c. search needs) returns-4
+    (λ c κs. search needs) section1-requires (λ c. search needs) (λ c. search needs) (λ c κs. search needs)
+    (λ c κs. passed (c .before .before)) returns-5 returns-6)

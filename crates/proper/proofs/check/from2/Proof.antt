@@ -89,15 +89,8 @@ returns-3 c =
 
 pub from2-spec : {M : Type 1} → statement M
 from2-spec =
-    tie.close
-    (tie.spec
+    tie.close (tie.spec
     (λ c. omega (arith, few (c .before .before)))
-    (λ c κs. search needs) (λ c. search needs)
-    returns
-    (λ c. search needs)
-    (λ c κs. room c)
-    shadows-right-requires
+    (λ c κs. search needs) (λ c. search needs) returns (λ c. search needs) (λ c κs. room c) shadows-right-requires
     (λ c κs. room (c .before .before .before))
-    from3-requires
-    returns-2
-    returns-3)
+    from3-requires returns-2 returns-3)

@@ -125,20 +125,11 @@ returns-4 c = λ trits H K S. sym (first-refused (section3 trits H) (givenFrom 1
 
 pub from3-spec : {M : Type 1} → statement M
 from3-spec =
-    tie.close
-    (tie.spec
+    tie.close (tie.spec
     (λ c. omega (arith, few (c .before .before .before)))
     (λ c. omega (arith, few (c .before .before .before)))
-    (λ c κs. search needs) (λ c. search needs)
-    returns
-    (λ c. search needs)
-    (λ c κs. room c)
-    marks-right-requires
-    count-marks-requires
+    (λ c κs. search needs) (λ c. search needs) returns (λ c. search needs) (λ c κs. room c) marks-right-requires count-marks-requires
     lay-out-requires
     (λ c κs. room (c .before .before .before .before .before))
     (λ c κs. let p = start3 (c .before .before .before .before) .pre in (p .0, p .1, through (c .before) (p .0) (p .1) (p .2) (p .3)))
-    (λ c. search needs) (λ c. search needs)
-    returns-2
-    returns-3
-    returns-4)
+    (λ c. search needs) (λ c. search needs) returns-2 returns-3 returns-4)

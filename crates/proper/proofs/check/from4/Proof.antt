@@ -48,14 +48,9 @@ returns-2 c =
 
 pub from4-spec : {M : Type 1} → statement M
 from4-spec =
-    tie.close
-    (tie.spec
+    tie.close (tie.spec
     (λ c. omega (arith, few (c .before .before .before .before .before)))
     (λ c. omega (arith, few (c .before .before .before .before .before)))
-    (λ c κs. search needs) (λ c. search needs)
-    returns
-    (λ c. search needs)
-    (λ c κs. room c)
-    (λ c κs. room (c .before))
+    (λ c κs. search needs) (λ c. search needs) returns (λ c. search needs) (λ c κs. room c) (λ c κs. room (c .before))
     (λ c κs. let cut = c .before in (cut .contents .ensures .1, start (cut .before .before .before) .pre))
     returns-2)

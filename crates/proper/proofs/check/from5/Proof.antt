@@ -88,16 +88,9 @@ returns-3 c = λ trits H T. rw (c .if1 .left) at (gives (c .before) trits H T)
 
 pub from5-spec : {M : Type 1} → statement M
 from5-spec =
-    tie.close
-    (tie.spec
+    tie.close (tie.spec
     (λ c. omega (arith, few (c .before .before .before .before .before)))
-    (λ c κs. search needs) (λ c. search needs)
-    before5-requires
-    returns
-    (λ c. search needs) (λ c κs. search needs)
-    (λ c κs. room (c .before .before))
-    both-right-requires
+    (λ c κs. search needs) (λ c. search needs) before5-requires returns (λ c. search needs) (λ c κs. search needs)
+    (λ c κs. room (c .before .before)) both-right-requires
     (λ c κs. room (c .before .before .before .before .before .before))
-    from6-requires
-    returns-2
-    returns-3)
+    from6-requires returns-2 returns-3)

@@ -74,22 +74,13 @@ returns-2 c =
 
 pub from6-spec : {M : Type 1} → statement M
 from6-spec =
-    tie.close
-    (tie.spec
-    Inv-loop
-    μ-loop
+    tie.close (tie.spec Inv-loop μ-loop
     (λ c. (omega arith, λ trits H C. refl))
-    (λ c κs. search needs)
-    level-requires
-    (λ c. search needs)
-    returns
-    (λ c. search needs)
+    (λ c κs. search needs) level-requires (λ c. search needs) returns (λ c. search needs)
     (λ c. small (c .before .before .before) .0)
     (λ c. omega (arith, small (c .before .before .before) .1))
     (λ c. omega (arith, small (c .before .before .before) .1))
     (λ c. omega (arith, small (c .before .before .before) .2))
-    after-requires
-    (λ c. search needs) (λ c. search needs)
-    loop-again
+    after-requires (λ c. search needs) (λ c. search needs) loop-again
     (λ c κs. let t = start (c .before) .pre .1 in (t .0, t .1, t .2 .marked, counted-nodes (t .2)))
     returns-2)

@@ -68,15 +68,7 @@ returns-3 c = λ trits H M e. first-refused (section9 trits H) [] _ IndexWrong (
 
 pub from9-spec : {M : Type 1} → statement M
 from9-spec =
-    tie.close
-    (tie.spec
-    add-words
-    (λ c. search needs) (λ c κs. search needs) (λ c. search needs)
-    returns
-    (λ c. search needs)
-    (λ c κs. room c)
-    mark-samples-right-requires
+    tie.close (tie.spec add-words (λ c. search needs) (λ c κs. search needs) (λ c. search needs) returns (λ c. search needs)
+    (λ c κs. room c) mark-samples-right-requires
     (λ c κs. room (c .before .before .before))
-    (λ c κs. search needs)
-    returns-2
-    returns-3)
+    (λ c κs. search needs) returns-2 returns-3)

@@ -59,15 +59,11 @@ gives c trits T e =
 
 pub level-spec : {M : Type 1} → statement M
 level-spec =
-    tie.close
-    (tie.spec
-    (λ c. small (c .before .before) .0)
+    tie.close (tie.spec (λ c. small (c .before .before) .0)
     (λ c. omega (arith, small (c .before .before) .1))
     (λ c. omega (arith, small (c .before .before) .1))
     (λ c. omega (arith, small (c .before .before) .2))
-    (λ c κs. search needs) (λ c. search needs)
-    returns
-    (λ c. search needs)
+    (λ c κs. search needs) (λ c. search needs) returns (λ c. search needs)
     (λ c κs. opens-room _ _ _ _ (sym (front c)))
     samples-right-requires
     (λ c. λ trits T e. sym (ap (fault 25) (c .if1 .taken)) ∙ gives (c .before) trits T e)

@@ -43,4 +43,5 @@ returns-3 : tie.Need-returns-3 Inv-loop μ-loop
 returns-3 c = λ eb eg. ballot-other (c .before .before .before .before .loop .inv .1) (omega arith) (c .if3 .left) eb
 
 pub nodes-given-spec : {M : Type 1} → statement M
-nodes-given-spec = tie.close (tie.spec Inv-loop μ-loop loop-holds returns onward-requires (λ c. search needs) loop-again add-if3 returns-2 returns-3)
+nodes-given-spec =
+    tie.close (tie.spec Inv-loop μ-loop loop-holds returns onward-requires (λ c. search needs) loop-again add-if3 returns-2 returns-3)

@@ -40,19 +40,14 @@ returns-4 c =
 
 pub onward-spec : {M : Type 1} → statement M
 onward-spec =
-    tie.close
-    (tie.spec
-    (λ c. search needs) (λ c κs. search needs)
+    tie.close (tie.spec (λ c. search needs) (λ c κs. search needs)
     (λ c. (omega arith, c .trit-on .ensures .1))
     (λ c. search needs) (λ c κs. search needs)
     (λ c. (omega arith, c .trit-on2 .ensures .1))
     (λ c. let s = c .before .before .before .before in tryte-inside (s .pre .1) (s .args .c .p / 5) (omega (arith, s .pre .2)))
     (λ c κs. search needs)
     (λ c κs. (start c .pre .0, here c .low, omega arith))
-    add-zeros
-    (λ c κs. search needs)
+    add-zeros (λ c κs. search needs)
     (λ c. (omega arith, c .trit-on3 .ensures .1))
     (λ c κs. let w = c .before .before .before .before in (start w .pre .0, here w .low, omega arith))
-    add-ones
-    (λ c. search needs)
-    returns-4)
+    add-ones (λ c. search needs) returns-4)

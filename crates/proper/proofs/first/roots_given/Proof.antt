@@ -42,14 +42,6 @@ loop-again c =
 
 pub roots-given-spec : {M : Type 1} → statement M
 roots-given-spec =
-    tie.close
-    (tie.spec
-    Inv-loop
-    μ-loop
-    loop-holds
-    (λ c κs. search needs)
-    returns
-    returns-2
-    (λ c. search needs) (λ c. search needs)
+    tie.close (tie.spec Inv-loop μ-loop loop-holds (λ c κs. search needs) returns returns-2 (λ c. search needs) (λ c. search needs)
     loop-again
     (λ c r e. roots-end (c .before .loop .inv .1) (omega arith) e))

@@ -53,18 +53,8 @@ ruled c =
 
 pub section1-spec : {M : Type 1} → statement M
 section1-spec =
-    tie.close
-    (tie.spec
-    (λ c κs. search needs)
-    returns
-    (λ c κs. search needs)
-    returns-2
-    (λ c κs. search needs) (λ c. search needs) (λ c. search needs)
-    returns-3
-    (λ c κs. search needs)
-    nodes-given-requires
-    (λ c. search needs) (λ c. search needs)
-    returns-4
+    tie.close (tie.spec (λ c κs. search needs) returns (λ c κs. search needs) returns-2 (λ c κs. search needs) (λ c. search needs)
+    (λ c. search needs) returns-3 (λ c κs. search needs) nodes-given-requires (λ c. search needs) (λ c. search needs) returns-4
     (λ c. ruled-nodes (ruled (c .before)) (omega arith))
     (λ c. omega (arith, ruled-room (ruled (c .before))))
     (λ c. omega (arith, ruled-room (ruled (c .before))))

@@ -21,12 +21,8 @@ returns c =
 
 pub trit-on-spec : {M : Type 1} → statement M
 trit-on-spec =
-    tie.close
-    (tie.spec
-    trit-requires
-    (λ c κs. search needs)
+    tie.close (tie.spec trit-requires (λ c κs. search needs)
     (λ c. let s = c .before .before .before .before in omega (arith, ballot-few (s .pre .1 .1)))
     (λ c κs. search needs)
     (λ c. let s = c .before .before .before .before .before .before in omega (arith, ballot-few (s .pre .1 .1)))
-    (λ c. search needs)
-    returns)
+    (λ c. search needs) returns)

@@ -23,13 +23,5 @@ returns c = counted-all (c .before .loop .inv) (c .loop-test .left)
 
 pub count-marks-spec : {M : Type 1} → statement M
 count-marks-spec =
-    tie.close
-    (tie.spec
-    Inv-loop
-    μ-loop
-    (λ c. counted-none _)
-    (λ c κs. search needs)
-    add-count
-    (λ c. search needs) (λ c. search needs)
-    next
+    tie.close (tie.spec Inv-loop μ-loop (λ c. counted-none _) (λ c κs. search needs) add-count (λ c. search needs) (λ c. search needs) next
     returns)

@@ -43,16 +43,5 @@ returns-2 c =
 
 pub mark-samples-right-spec : {M : Type 1} → statement M
 mark-samples-right-spec =
-    tie.close
-    (tie.spec
-    Inv-loop
-    μ-loop
-    loop-holds
-    (λ c. search needs)
-    get2-requires
-    returns
-    (λ c κs. search needs)
-    add-sum
-    (λ c. search needs) (λ c. search needs)
-    next
-    returns-2)
+    tie.close (tie.spec Inv-loop μ-loop loop-holds (λ c. search needs) get2-requires returns (λ c κs. search needs) add-sum
+    (λ c. search needs) (λ c. search needs) next returns-2)

@@ -13,5 +13,4 @@ returns : tie.Need-returns
 returns c = ap ones (c .get8 .ensures)
 
 pub marks-in-spec : {M : Type 1} → statement M
-marks-in-spec =
-    tie.close (tie.spec (λ c. search needs) (λ c κs. search needs) cast-result returns)
+marks-in-spec = tie.close (tie.spec (λ c. search needs) (λ c κs. search needs) cast-result returns)

@@ -19,11 +19,4 @@ returns : tie.Need-returns
 returns c = λ trits H s en. c .words-right .ensures trits H (s .proper) (c .before .before .before .set-marks .ensures trits H s) en
 
 pub marks-right-spec : {M : Type 1} → statement M
-marks-right-spec =
-    tie.close
-    (tie.spec
-    (λ c. search needs)
-    set-marks-requires
-    (λ c. search needs)
-    words-right-requires
-    returns)
+marks-right-spec = tie.close (tie.spec (λ c. search needs) set-marks-requires (λ c. search needs) words-right-requires returns)

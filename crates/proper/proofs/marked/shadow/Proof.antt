@@ -22,5 +22,4 @@ returns c =
     (omega arith, omega (arith, limits-nodes (start .pre .0) (s .proper .in-limits)), λ trits H t. c .get2 .ensures .0 ∙ shadow-at t i (omega (arith, length-shadows s, length-shadows t)))
 
 pub shadow-spec : {M : Type 1} → statement M
-shadow-spec =
-    tie.close (tie.spec mul-get2 get2-requires returns)
+shadow-spec = tie.close (tie.spec mul-get2 get2-requires returns)

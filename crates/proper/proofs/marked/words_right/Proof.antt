@@ -46,16 +46,5 @@ returns-2 c =
 
 pub words-right-spec : {M : Type 1} → statement M
 words-right-spec =
-    tie.close
-    (tie.spec
-    Inv-loop
-    μ-loop
-    add-words
-    (λ c. below-none _)
-    (λ c. search needs)
-    shared-slice-read-word
-    (λ c. search needs) (λ c κs. search needs)
-    returns
-    (λ c. search needs) (λ c. search needs)
-    loop-again
-    returns-2)
+    tie.close (tie.spec Inv-loop μ-loop add-words (λ c. below-none _) (λ c. search needs) shared-slice-read-word (λ c. search needs)
+    (λ c κs. search needs) returns (λ c. search needs) (λ c. search needs) loop-again returns-2)

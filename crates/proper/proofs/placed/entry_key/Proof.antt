@@ -57,15 +57,9 @@ returns-4 c =
 
 pub entry-key-spec : {M : Type 1} → statement M
 entry-key-spec =
-    tie.close
-    (tie.spec
-    (λ c. search needs) (λ c κs. search needs)
+    tie.close (tie.spec (λ c. search needs) (λ c κs. search needs)
     (λ c trits H K n W R. omega (arith, c .before .get4 .ensures .0, R .inside))
     (λ c κs. let g = c .before in let t = start g .pre .3 in omega (arith, tryte-inside (t .2 .trits-in) (g .get4 .result / 5) (omega (arith, t .3))))
     (λ c trits H K n W R. omega (arith, trit-is (c .before) trits (K .trits-in), rw (← c .before .before .before .get4 .ensures .0) at (R .two)))
     (λ c κs. let p = start (c .before .before .before) .pre in let t = p .3 in (p .0, p .1, (t .0, t .2 .trits-in, t .3, t .4, omega arith)))
-    (λ c. omega (arith, room c))
-    (λ c κs. room c)
-    (λ c. search needs) (λ c. search needs)
-    returns-3
-    returns-4)
+    (λ c. omega (arith, room c)) (λ c κs. room c) (λ c. search needs) (λ c. search needs) returns-3 returns-4)

@@ -19,10 +19,8 @@ keys-right-requires c κs =
 
 pub index-right-spec : {M : Type 1} → statement M
 index-right-spec =
-    tie.close
-    (tie.spec
+    tie.close (tie.spec
     (λ c κs. c .before .before .before .before .pre .0)
     (λ c κs. let t = c .before .before .before .before .before .pre .2 in omega (arith, t .2 .trits-in .few, t .3))
-    sample-twos-requires
-    keys-right-requires
+    sample-twos-requires keys-right-requires
     (λ c trits H K n long. c .keys-right .ensures trits H K n (c .before .before .before .sample-twos .ensures trits (K .trits-in) n) long))

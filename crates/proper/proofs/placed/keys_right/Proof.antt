@@ -107,22 +107,10 @@ returns-3 c =
 
 pub keys-right-spec : {M : Type 1} → statement M
 keys-right-spec =
-    tie.close
-    (tie.spec
-    Inv-loop
-    μ-loop
+    tie.close (tie.spec Inv-loop μ-loop
     (λ c. (omega arith, omega arith, λ trits H K n W. indexed-none (K .shadowed .proper)))
     (λ c κs. let p = c .before .before .before .before .before .before .pre in let t = p .2 in (p .0, p .1, omega arith, (t .0, t .1, t .2, t .3, t .4)))
-    (λ c. search needs) (λ c. search needs)
-    returns
-    add-low
-    (λ c. search needs)
+    (λ c. search needs) (λ c. search needs) returns add-low (λ c. search needs)
     (λ c κs. few (c .before .before .before .before .before .before))
     (λ c. omega (arith, few (c .before .before .before .before .before .before .before .before)))
-    (λ c. search needs)
-    loop-again
-    returns-2
-    (λ c. search needs)
-    loop-again-2
-    (λ c κs. few (c .before))
-    returns-3)
+    (λ c. search needs) loop-again returns-2 (λ c. search needs) loop-again-2 (λ c κs. few (c .before)) returns-3)

@@ -69,25 +69,18 @@ twos-to-requires c κs =
 
 pub sample-twos-spec : {M : Type 1} → statement M
 sample-twos-spec =
-    tie.close
-    (tie.spec
-    Inv-loop
-    μ-loop
-    (λ c. search needs)
+    tie.close (tie.spec Inv-loop μ-loop (λ c. search needs)
     (λ c. search (needs, c .before .pre .2 .some))
     (λ c. search needs)
     (λ c. let p = c .before .pre in (omega arith, simp length-set (p .1), λ trits T n. filling-none trits (c .before .args .twos .now) (c .before .args .step) (omega (arith, p .1))))
-    (λ c. omega (arith, spots c))
-    (λ c κs. search needs)
+    (λ c. omega (arith, spots c)) (λ c κs. search needs)
     (λ c. omega (arith, spots (c .before)))
     (λ c. omega (arith, spots (c .before)))
-    (λ c κs. search needs)
-    twos-to-requires
+    (λ c κs. search needs) twos-to-requires
     (λ c. omega (arith, spots (c .before .before .before)))
     (λ c. omega (arith, few c))
     (λ c. omega (arith, spots (c .before .before .before)))
     (λ c. omega (arith, spots (c .before .before .before)))
-    (λ c. search needs)
-    loop-again
+    (λ c. search needs) loop-again
     (λ c trits T n. let x = c .before .before .before in let h : (x .args .l / 5 + 6) / x .args .step ≤ c .before .loop .i = c .loop-test .left in
     filled (c .before .loop .inv .2 trits T n) (x .pre .2 .some) (rw n h)))

@@ -29,13 +29,9 @@ loop-again c =
 
 pub two-table-spec : {M : Type 1} → statement M
 two-table-spec =
-    tie.close
-    (tie.spec
-    Inv-loop
-    μ-loop
+    tie.close (tie.spec Inv-loop μ-loop
     (λ c. (omega arith, search needs, λ k h. absurd (omega arith)))
     (λ c κs. (c .before .before .pre, omega arith, omega arith))
     (λ c. omega (arith, c .tryte-count .ensures .1))
-    (λ c. search needs) (λ c. search needs) (λ c. search needs)
-    loop-again
+    (λ c. search needs) (λ c. search needs) (λ c. search needs) loop-again
     (λ c k h. c .before .loop .inv .2 k (omega arith)))

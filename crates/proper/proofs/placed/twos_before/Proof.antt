@@ -36,8 +36,7 @@ summed c trits T n l W =
 
 pub twos-before-spec : {M : Type 1} → statement M
 twos-before-spec =
-    tie.close
-    (tie.spec
+    tie.close (tie.spec
     (λ c κs. let p = c .before .pre in let t = p .2 in (p .0, p .1, (t .0, t .1, t .2, t .3, omega (arith, t .4))))
     (λ c. let s = c .before .before .before in let t = s .pre .2 in tryte-inside (t .1) (s .args .p / 5) (omega (arith, t .2, t .4)))
     (λ c κs. search needs) (λ c κs. search needs) (λ c. search needs)

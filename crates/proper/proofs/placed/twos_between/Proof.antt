@@ -63,10 +63,7 @@ returns c trits T l =
 
 pub twos-between-spec : {M : Type 1} → statement M
 twos-between-spec =
-    tie.close
-    (tie.spec
-    Inv-loop
-    μ-loop
+    tie.close (tie.spec Inv-loop μ-loop
     (λ c. let t = c .before .pre .4 in omega (arith, trytes-many (t .1), t .3))
     (λ c. (omega arith, omega arith, none (c .before)))
     (λ c. let p = c .before .before .before .pre in omega (arith, p .1, p .2, p .3, p .4 .2, p .4 .1 .few))
@@ -76,6 +73,4 @@ twos-between-spec =
     (λ c κs. let p = c .before .before .before .before .before .before .pre in let t = p .4 in (p .0, read c (t .0) (t .1) (t .3) .low))
     (λ c. omega (arith, small c))
     (λ c. omega (arith, small c, c .before .before .before .before .before .before .before .pre .3))
-    (λ c. search needs) (λ c. search needs)
-    loop-again
-    returns)
+    (λ c. search needs) (λ c. search needs) loop-again returns)

@@ -52,13 +52,11 @@ between c trits T n =
 
 pub twos-near-spec : {M : Type 1} → statement M
 twos-near-spec =
-    tie.close
-    (tie.spec
+    tie.close (tie.spec
     (λ c. let s = c .before in omega (arith, few s, s .pre .1, s .pre .4 .4))
     (λ c. search (needs, c .before .pre .3 .some))
     (λ c. omega (arith, nearest (c .before) .low))
-    (λ c. nearest (c .before) .low)
-    (λ c κs. search needs)
+    (λ c. nearest (c .before) .low) (λ c κs. search needs)
     (λ c. let s = c .before .before .before in omega (arith, few s, nearest s .early))
     (λ c κs. search needs) (λ c κs. search needs)
     (λ c. let at = c .before in let s = at .before .before .before .before in omega (arith, few s, reach at, s .pre .4 .4))

@@ -44,15 +44,9 @@ returns c =
 
 pub twos-to-spec : {M : Type 1} → statement M
 twos-to-spec =
-    tie.close
-    (tie.spec
-    Inv-loop
-    μ-loop
+    tie.close (tie.spec Inv-loop μ-loop
     (λ c. (c .before .pre .1, λ trits T l e. e))
     (λ c. let at = c .before .before in let t = at .before .before .pre .2 in tryte-inside (t .1) (at .loop .q) (omega (arith, t .2)))
-    (λ c κs. search needs)
-    two-count-requires
+    (λ c κs. search needs) two-count-requires
     (λ c. omega (arith, few (c .before .before .before .before)))
-    (λ c. search needs) (λ c. search needs)
-    loop-again
-    returns)
+    (λ c. search needs) (λ c. search needs) loop-again returns)

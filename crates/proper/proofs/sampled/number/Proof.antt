@@ -13,9 +13,7 @@ at-width c w r e h = let x = c .args in h ∙ ap (λ (w : ℕ). read w (x .width
 
 pub number-spec : {M : Type 1} → statement M
 number-spec =
-    tie.close
-    (tie.spec
-    (λ c. search needs) (λ c κs. search needs)
+    tie.close (tie.spec (λ c. search needs) (λ c κs. search needs)
     (λ c. let s = c .before in at-width (s .before .before) 4 _ (s .if1 .taken) (c .get4 .ensures .0))
     (λ c κs. search needs)
     (λ c. let s = c .before in at-width (s .before .before .before) 2 _ (s .if2 .taken) (c .get2 .ensures .0))

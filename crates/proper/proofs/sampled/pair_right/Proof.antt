@@ -14,8 +14,7 @@ returns-2 c = rw (← c .before .before .number .ensures, eq-eqb _ _ (c .before 
 
 pub pair-right-spec : {M : Type 1} → statement M
 pair-right-spec =
-    tie.close
-    (tie.spec
+    tie.close (tie.spec
     (λ c. let s = c .before in omega (arith, small-pair (s .args .q) (s .pre .0) (s .pre .1)))
     (λ c κs. let s = c .before in (s .pre .0, number-room (s .args .width) (2 * s .args .q) _ (omega arith) (s .pre .1)))
     returns

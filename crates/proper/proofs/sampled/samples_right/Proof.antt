@@ -54,17 +54,9 @@ returns-2 c =
 
 pub samples-right-spec : {M : Type 1} → statement M
 samples-right-spec =
-    tie.close
-    (tie.spec
-    Inv-loop
-    μ-loop
+    tie.close (tie.spec Inv-loop μ-loop
     (λ c. c .before .before .pre .1 .3 .steps)
     (λ c. (omega arith, λ trits T n P. passed-none P))
-    (λ c κs. room (c .before))
-    returns
-    next-counts-requires
+    (λ c κs. room (c .before)) returns next-counts-requires
     (λ c. let x = c .before .before .before .before .before .before .before .args in omega (arith, div-le-self (x .l) (x .step)))
-    (λ c. search needs)
-    loop-again
-    (λ c κs. room (c .before))
-    returns-2)
+    (λ c. search needs) loop-again (λ c κs. room (c .before)) returns-2)

@@ -18,4 +18,7 @@ returns-3 : tie.Need-returns-3
 returns-3 c = rw (eq-eqb _ 2 (c .before .before .if1 .left), sym (c .before .get2 .ensures .0), le-leb 1 (c .before .get2 .result) (omega arith))
 
 pub entry-right-spec : {M : Type 1} → statement M
-entry-right-spec = tie.close (tie.spec returns (λ c. omega (arith, c .before .before .pre (c .if1 .left))) get2-requires returns-2 returns-3)
+entry-right-spec =
+    tie.close (tie.spec returns
+    (λ c. omega (arith, c .before .before .pre (c .if1 .left)))
+    get2-requires returns-2 returns-3)

@@ -55,18 +55,5 @@ returns-2 c = let i = c .before .loop .inv in λ trits t e. rw (trits-are t e) a
 
 pub shadows-right-spec : {M : Type 1} → statement M
 shadows-right-spec =
-    tie.close
-    (tie.spec
-    Inv-loop
-    μ-loop
-    loop-holds
-    (λ c κs. search needs)
-    entry-right-requires
-    returns
-    (λ c κs. search needs)
-    add-ones
-    (λ c κs. search needs)
-    add-twos
-    (λ c. search needs) (λ c. search needs)
-    loop-again
-    returns-2)
+    tie.close (tie.spec Inv-loop μ-loop loop-holds (λ c κs. search needs) entry-right-requires returns (λ c κs. search needs) add-ones
+    (λ c κs. search needs) add-twos (λ c. search needs) (λ c. search needs) loop-again returns-2)

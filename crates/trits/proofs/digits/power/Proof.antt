@@ -10,8 +10,7 @@ last c = let e : c .before .args .r ≡ 4 = omega arith in rw e (refl, lit< tt)
 
 pub power-spec : {M : Type 1} → statement M
 power-spec =
-    tie.close
-    (tie.spec
+    tie.close (tie.spec
     (λ c. rw (c .match .keys1) (refl, lit< tt))
     (λ c. rw (c .match .keys2) (refl, lit< tt))
     (λ c. rw (c .match .keys3) (refl, lit< tt))

@@ -25,11 +25,7 @@ twos c =
 
 pub tryte-count-spec : {M : Type 1} → statement M
 tryte-count-spec =
-    tie.close
-    (tie.spec
-    (λ c. search needs) (λ c κs. search needs)
-    zeros
-    ones
+    tie.close (tie.spec (λ c. search needs) (λ c κs. search needs) zeros ones
     (λ c. omega (arith, parts (c .before .before)))
     (λ c. omega (arith, parts (c .before .before)))
     twos)

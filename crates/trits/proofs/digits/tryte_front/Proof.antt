@@ -21,9 +21,7 @@ entry c =
 
 pub tryte-front-spec : {M : Type 1} → statement M
 tryte-front-spec =
-    tie.close
-    (tie.spec
-    (λ c κs. search needs) (λ c. search needs)
+    tie.close (tie.spec (λ c κs. search needs) (λ c. search needs)
     (λ c. omega (arith, mod-le (c .before .args .x) (c .power .result), c .before .pre .1))
     (λ c κs. search needs) (λ c. search needs)
     (λ c. omega (arith, entry c, count-few 0 (c .before .before .before .args .x) (c .before .before .before .args .r)))

@@ -27,14 +27,7 @@ tryte-requires c κs =
 
 pub find-spec : {M : Type 1} → statement M
 find-spec =
-    tie.close
-    (tie.spec
-    (λ c κs. search needs)
-    far-requires
-    (λ c κs. search needs)
-    middle-requires
-    (λ c κs. search needs)
-    near-requires
+    tie.close (tie.spec (λ c κs. search needs) far-requires (λ c κs. search needs) middle-requires (λ c κs. search needs) near-requires
     tryte-requires
     (λ c κs. let x = c .before .before .before .before .before .before .before .before in (x .pre .0, x .pre .2, c .find-tryte .ensures))
     (λ c. c .find-trit .ensures))

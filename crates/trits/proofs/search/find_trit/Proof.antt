@@ -8,8 +8,7 @@ use Rattle.trits.proofs.search.find_trit.Tie as tie
 
 pub find-trit-spec : {M : Type 1} → statement M
 find-trit-spec =
-    tie.close
-    (tie.spec
+    tie.close (tie.spec
     (λ c κs. (c .before .pre .0, inside (c .before .pre .2)))
     (λ c. let x = c .before .before in omega (arith, few (x .pre .0 .whole), inside (x .pre .2)))
     (λ c. let x = c .before .before in omega (arith, x .pre .2))

@@ -77,10 +77,7 @@ returns c =
 
 pub find-tryte-spec : {M : Type 1} → statement M
 find-tryte-spec =
-    tie.close
-    (tie.spec
-    Inv-loop
-    μ-loop
+    tie.close (tie.spec Inv-loop μ-loop
     (λ c. let x = c .before in omega (arith, few (x .pre .0 .whole), inside (x .pre .3)))
     (λ c κs. let x = c .before in omega (arith, few (x .pre .0 .whole), inside (x .pre .3), trits-is (x .pre .0)))
     loop-holds

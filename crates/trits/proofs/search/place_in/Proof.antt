@@ -38,18 +38,7 @@ module _ (c : tie.Start) where
 
 pub place-in-spec : {M : Type 1} → statement M
 place-in-spec =
-    tie.close
-    (tie.spec
-    (λ c. search needs) (λ c. search needs)
-    (λ c. omega (arith, hits c))
-    (λ c. search needs)
-    (λ c. omega (arith, hits c))
-    (λ c. search needs)
-    (λ c. omega (arith, hits c))
-    (λ c. search needs) (λ c. search needs)
-    (λ c. omega (arith, tests c))
-    (λ c. search needs)
-    (λ c. omega (arith, tests c))
-    (λ c. search needs)
-    (λ c. omega (arith, tests c))
+    tie.close (tie.spec (λ c. search needs) (λ c. search needs) (λ c. omega (arith, hits c)) (λ c. search needs)
+    (λ c. omega (arith, hits c)) (λ c. search needs) (λ c. omega (arith, hits c)) (λ c. search needs) (λ c. search needs)
+    (λ c. omega (arith, tests c)) (λ c. search needs) (λ c. omega (arith, tests c)) (λ c. search needs) (λ c. omega (arith, tests c))
     (λ c. place-is (c .args .x) (c .args .t) (c .args .k) (c .pre .0) (c .pre .1) (c .pre .2) (c .pre .3)))

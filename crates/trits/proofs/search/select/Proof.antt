@@ -52,4 +52,7 @@ found : tie.Need-returns-3
 found c = let s = c .find .ensures in rw (← s .ranked) (sym (select-at _ _ _ (s .inside) (s .holds)))
 
 pub select-spec : {M : Type 1} → statement M
-select-spec = tie.close (tie.spec no-zeroth (λ c κs. (nodes-few (laid (c .before)), c .before .before .pre .3)) too-large find-requires found)
+select-spec =
+    tie.close (tie.spec no-zeroth
+    (λ c κs. (nodes-few (laid (c .before)), c .before .before .pre .3))
+    too-large find-requires found)
