@@ -1,11 +1,12 @@
 -- The laws of the definitions, for this crate's code and for other crates to cite.
 
--- tools: lists, rank; digits; select; places, permutations
+-- tools: lists, rank; digits; select; places, permutations; a list written over a buffer
 pub mod Laws
 pub mod FaultLaws
 pub mod Digits
 pub mod Select
 pub mod Places
+pub mod Over
 -- table and walk: reading words; the walk, its order, what it reaches; the graph that trits and shadows give back; the rules by one scan
 pub mod Reading
 pub mod TableFaults

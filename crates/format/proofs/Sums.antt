@@ -4,23 +4,22 @@ use native.Mathlib.Nat.{le-of-suc-le-suc, not-suc-le-zero, le-refl, zero-add, ad
 use native.Mathlib.Omega.{arith}
 use mathlib.Core.Path.{_≡_, sym, ap, _∙_}
 use mathlib.Core.List.{List, [], _∷_}
-use lib.Dec.{ltb}
+use lib.Dec.{leb, ltb}
 use lib.ListN.{length, getD}
 use lib.Seq.{take-all}
-use borrow.Author.Tests.{eqb-true, ne-eqb, lt-ltb, le-ltb}
+use borrow.Author.Tests.{leb-true, eqb-true, ne-eqb, lt-ltb, le-ltb}
 use native.Mathlib.Decide.{decLe}
 use Rattle.format.specs.Lists.{bit, countIn}
 use Rattle.format.specs.Trits.{rank, places, Selected, nth}
 use Rattle.format.specs.Image.{untilZero, nodeCount, rootCount, edgeCount}
-use Rattle.format.specs.Proper.{rootsFirst, ProperTrits}
+use Rattle.format.specs.Proper.{rootsFirst, limits, ProperTrits}
 use Rattle.format.specs.Edges.{operandEdges, useEdges}
-use Rattle.format.proofs.Laws.{rank-three, getD-other}
+use Rattle.format.proofs.Laws.{both-true, rank-here, rank-three, getD-other}
 use Rattle.format.proofs.Select.{place-rank}
 use Rattle.format.proofs.Sizes.{total, total-counts, total-cong, total-add}
 use Rattle.format.proofs.CheckLaws.{shadow-nodes}
 use Rattle.format.proofs.EdgeLaws.{lt-of-rank}
 use Rattle.format.proofs.ProperLaws.{zeros-ones, last-zero, length-trits, nth-selected, operand-count, use-count}
-use Rattle.format.proofs.Laws.{rank-here}
 
 -- ---- the first zero stands at c, the last at L - 1
 
@@ -83,6 +82,11 @@ roots-nodes trits = front-le 1 trits
 pub edges-shadows : (trits H : List ℕ) → ProperTrits trits H → edgeCount trits + rootCount trits ≡ nodeCount trits + length H
 unfolding edgeCount
 edges-shadows trits H p = omega (arith, length-trits trits H p, roots-nodes trits)
+
+pub shadows-few : {trits H : List ℕ} → ProperTrits trits H → length H ≤ 65535
+unfolding limits
+shadows-few {trits} {H} p =
+    omega (arith, edges-shadows trits H p, roots-nodes trits, leb-true (edgeCount trits) 65535 (both-true (leb (nodeCount trits) 30000) (leb (edgeCount trits) 65535) (p .in-limits) .1))
 
 sum-operands : (trits H : List ℕ) → ProperTrits trits H → (j : ℕ) → j ≤ nodeCount trits
     → total (λ i. length (operandEdges trits H i)) j + nth 0 trits 1 + j ≡ nth 0 trits (suc j)

@@ -18,7 +18,7 @@ use Rattle.format.proofs.Places.{all-append, all-imp, all-at, number-new, getD-
 use Rattle.format.proofs.Walks.{Inv, see-at, inv-see, inv-close}
 use Rattle.format.proofs.Order.{fits-length}
 use Rattle.packing.specs.Work.{seenWord, Held, Holding, Saw}
-use Rattle.packing.proofs.OverLaws.{Over, over-length, over-behind}
+use Rattle.format.proofs.Over.{Over, over-length, over-behind}
 use Rattle.packing.proofs.NumberLaws.{number-other}
 
 -- ---- the word of a node seen

@@ -2,7 +2,6 @@
 pub mod ScanLaws
 pub mod NumberLaws
 pub mod BitLaws
-pub mod OverLaws
 pub mod HeldLaws
 pub mod RunLaws
 pub mod TurnLaws

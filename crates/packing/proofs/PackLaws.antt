@@ -31,7 +31,7 @@ use Rattle.packing.specs.Sizes.{sizesOf}
 use Rattle.packing.specs.Work.{graphOr, graphOf, Sized, startOf, Kept, WorkAt}
 use Rattle.packing.specs.Stream.{Walked}
 use Rattle.packing.specs.Packed.{layoutOf, Planned, Measured, Ordered, Uncleared}
-use Rattle.packing.proofs.OverLaws.{over-all, over-behind}
+use Rattle.format.proofs.Over.{over-all, over-behind}
 use Rattle.packing.proofs.RunLaws.{formed, limits}
 
 -- ---- a table

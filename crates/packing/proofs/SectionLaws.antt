@@ -19,7 +19,7 @@ use Rattle.packing.specs.Work.{graphOf}
 use Rattle.packing.specs.Stream.{Walked, Rest, Wrote, Took}
 use Rattle.packing.specs.declared.stream.Cursor.{Cursor}
 use Rattle.packing.specs.declared.stream.Next.{Next}
-use Rattle.packing.proofs.OverLaws.{Over, over-next}
+use Rattle.format.proofs.Over.{Over, over-next}
 use Rattle.packing.proofs.RunLaws.{are-words, formed}
 
 -- ---- section 1, after i trytes

@@ -16,7 +16,7 @@ use Rattle.format.proofs.Cutting.{operandNumbers}
 use Rattle.format.proofs.Walks.{operands-inside, see-cases, seeAll-grows, inv-turns, empty, start-visit}
 use Rattle.format.proofs.Order.{fits, fits-length}
 use Rattle.packing.specs.Work.{graphOf, Sized, startOf, seenWord, runAt, RunIn, Holding, Kept, Saw, WorkAt}
-use Rattle.packing.proofs.OverLaws.{over-length, over-in, over-behind, over-all}
+use Rattle.format.proofs.Over.{over-length, over-in, over-behind, over-all}
 use Rattle.packing.proofs.RunLaws.{Run, operands-at, formed, limits, operands-run, roots-run}
 use Rattle.packing.proofs.HeldLaws.{held-close, queued, queued-node}
 

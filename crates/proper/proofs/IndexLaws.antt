@@ -4,7 +4,7 @@ use native.Mathlib.Nat.{add-zero, zero-add}
 use native.Mathlib.Omega.{arith}
 use native.Mathlib.Numerals.{add-one, sub-one}
 use mathlib.Core.Path.{_≡_, refl, sym, ap, _∙_}
-use mathlib.Core.Bool.{Bool, true, false, _&&_}
+use mathlib.Core.Bool.{Bool, true, false}
 use mathlib.Core.List.{List, [], _∷_, _++_, map}
 use lib.Dec.{eqb, leb, ltb, lit<}
 use lib.ListN.{length, getD, drop, length-append, length-drop, drop-of-length-le}
@@ -19,8 +19,26 @@ use Rattle.format.proofs.Laws.{both-true, true-both, last-false, same-eq}
 use Rattle.format.proofs.Sizes.{length-bytes, length-group, length-starts, grouped-suc}
 use Rattle.format.proofs.Steps.{bytes-same}
 use Rattle.format.proofs.ImageReads.{Each, fits4, fits5}
-use Rattle.proper.specs.Places.{key, Rises, numberIs}
-use Rattle.proper.proofs.KeyLaws.{Climbed, entries, number-in, refuted, many, climbed-none, climbed-next, climbed-wrong, climbed-all}
+use Rattle.samples.specs.Lent.{TritsIn}
+use Rattle.proper.specs.Known.{Known}
+use Rattle.proper.specs.Places.{key, Rises, numberIs, Long, bothRight}
+use Rattle.proper.proofs.SecondLaws.{trits-are}
+use Rattle.proper.proofs.StartLaws.{same-marked}
+use Rattle.proper.proofs.KeyLaws.{many-are, Climbed, entries, number-in, refuted, many, climbed-none, climbed-next, climbed-wrong, climbed-all}
+
+-- ---- one length
+
+-- all trits and shadows that have n nodes and these sections 1 and 2 have sections 4 and 5 of one length
+pub same-long : {trits H trits′ H′ bs hs firsts part : List ℕ} → Known trits H bs hs → Known trits′ H′ bs hs → nodeCount trits ≡ nodeCount trits′
+    → Long trits H firsts part → Long trits′ H′ firsts part
+same-long K K′ e L = record {
+  long4 = L .long4 ∙ ap (λ (k : ℕ). 4 * (k + 1)) (same-marked (K .shadowed) (K′ .shadowed) e);
+  long5 = omega (arith, L .long5, many-are K, many-are K′);
+}
+
+-- and all trits of section 1 have one number of nodes
+pub same-nodes : {trits trits′ bs : List ℕ} {l : ℕ} → TritsIn trits bs → TritsIn trits′ bs → length trits ≡ l → length trits′ ≡ l → nodeCount trits ≡ nodeCount trits′
+same-nodes T T′ e e′ = ap nodeCount (sym (trits-are T e) ∙ trits-are T′ e′)
 
 -- ---- the first indices
 
@@ -112,10 +130,6 @@ pub record Indexed (trits H numbers part : List ℕ) (e low j : ℕ) : Type 0 wh
   climbed : Climbed trits H part e low
   along : Right5 trits H part → Along trits H numbers e (low / 131072) j
 
--- both sections are right
-abbrev pub bothRight : List ℕ → List ℕ → List ℕ → List ℕ → Bool
-bothRight trits H numbers part = same numbers (bytes 4 (starts trits H)) && same part (bytes 4 (grouped trits H (nodeCount trits)))
-
 pub indexed-none : {trits H numbers part : List ℕ} → ProperTrits trits H → Indexed trits H numbers part 0 0 0
 indexed-none P = record { climbed = climbed-none; along = λ s. record { left = firsts-starts P; right = below-none _ } }
 
@@ -183,15 +197,14 @@ module _ {trits H numbers part : List ℕ} {e low j : ℕ} (I : Indexed trits H 
       }
 
   -- behind the last place
-  pub indexed-all : e ≡ length H → length part ≡ 4 * length H → Below 256 part → Below 256 numbers → length numbers ≡ 4 * (length (markedNodes trits H) + 1)
-      → {k : ℕ} → k ≡ e → numberIs numbers j k ≡ bothRight trits H numbers part
-  indexed-all ee full low low4 long {k} ek = go (numberIs numbers j k) refl
+  pub indexed-all : e ≡ length H → Below 256 part → Below 256 numbers → Long trits H numbers part → {k : ℕ} → k ≡ e → numberIs numbers j k ≡ bothRight trits H numbers part
+  indexed-all ee low low4 long {k} ek = go (numberIs numbers j k) refl
     where
       ends : Right5 trits H part → drop j S ≡ k ∷ []
       ends s = I .along s .left ∙ rw (drop-of-length-le G {i = e} (omega (arith, many P)), ek)
 
       right5 : true ≡ same part (bytes 4 G)
-      right5 = climbed-all (I .climbed) P ee full low
+      right5 = climbed-all (I .climbed) P ee (long .long5) low
 
       go : (t : Bool) → numberIs numbers j k ≡ t → t ≡ bothRight trits H numbers part
       go false n = number-wrong ends n

@@ -4,21 +4,18 @@ use native.Mathlib.Omega.{arith}
 use mathlib.Core.Path.{_≡_, sym, ap, _∙_}
 use mathlib.Core.Bool.{Bool, true, false}
 use mathlib.Core.List.{List}
-use lib.Dec.{leb, lit<}
+use lib.Dec.{lit<}
 use lib.ListN.{length}
-use borrow.Author.Tests.{leb-true}
 use Rattle.format.specs.Faults.{fault, _then_}
 use Rattle.format.specs.Lists.{countIn, up, Below}
 use Rattle.format.specs.Trits.{untrytes}
-use Rattle.format.specs.Image.{fromBytes, nodeCount, edgeCount, given}
+use Rattle.format.specs.Image.{fromBytes, given}
 use Rattle.format.specs.Proper.{bytesLow, padded, rootsFirst, balanced, grown, limits, shadowsSeen, contentsOf, restOf, size1, tritsOf, after1, contentsFault1, fault1, fault2, shadowsOf, after2, checkGiven, checkImage, ProperTrits}
 use Rattle.format.specs.Answers.{refusalNumber}
 use Rattle.format.specs.declared.Refusal.{Refusal}
 use Rattle.format.proofs.FaultLaws.{then-yes, then-no, then-zero, then-assoc, fault-zero}
-use Rattle.format.proofs.Laws.{both-true}
 use Rattle.format.proofs.Digits.{length-gather, up-mul}
 use Rattle.format.proofs.CheckLaws.{bytes-fromBytes, length-untrytes, trits-untrytes, trytes-untrytes, section-missing}
-use Rattle.format.proofs.Sums.{roots-nodes, edges-shadows}
 use Rattle.format.proofs.Steps.{checker-gives}
 use Rattle.format.proofs.OneToOne.{refusal-some}
 use Rattle.samples.specs.Lent.{TritsIn}
@@ -88,7 +85,6 @@ module _ {bs : List ℕ} {l n c k : ℕ} (F : FirstPassed bs l n c k) where
       let s4 = then-zero (fault 23 (balanced trits)) _ (s3 .1) in
       let s5 = then-zero (fault 23 (grown trits)) _ (s4 .1) in
       let long = F .sized .trits-are in
-      let in-limits : limits trits ≡ true = fault-zero 22 (limits trits) (lit< tt) (s5 .1) in
       let p : ProperTrits trits (fromBytes 2 hs) = record {
         threes = trits-untrytes l bs;
         length-low = omega (arith, long, F .some);
@@ -96,20 +92,13 @@ module _ {bs : List ℕ} {l n c k : ℕ} (F : FirstPassed bs l n c k) where
         roots-first = fault-zero 23 (rootsFirst trits) (lit< tt) (s3 .0);
         is-balanced = fault-zero 23 (balanced trits) (lit< tt) (s4 .0);
         is-grown = fault-zero 23 (grown trits) (lit< tt) (s5 .0);
-        in-limits = in-limits;
+        in-limits = fault-zero 22 (limits trits) (lit< tt) (s5 .1);
         paired = length-gather 256 2 hs ∙ ap (λ (x : ℕ). up x 2) size ∙ up-mul 2 k (lit< tt) ∙ sym (F .sized .twos-are);
         seen = seen;
       } in
       record {
         shadowed = record {
           proper = p;
-          few =
-              omega (
-                arith,
-                edges-shadows trits (fromBytes 2 hs) p,
-                roots-nodes trits,
-                leb-true (edgeCount trits) 65535 (both-true (leb (nodeCount trits) 30000) (leb (edgeCount trits) 65535) in-limits .1),
-              );
           shadows-are = sym (bytes-fromBytes 2 hs k (lit< tt) low size);
         };
         trits-in = first-trits;

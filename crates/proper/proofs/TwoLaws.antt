@@ -1,25 +1,24 @@
 -- The twos before a place, counted tryte by tryte from the nearest sample. Assumes nothing.
 use Prim.Native.Nat.{ℕ, _+_, _-_, _*_, _/_, _%_, _^_, _≤_, _<_}
 use native.Mathlib.Nat.{mul-zero, mul-one, mul-comm, mul-add, mul-le-mul-left, lt-of-mul-lt-mul-left, mul-div-le, lt-mul-div-succ, div-lt-iff-lt-mul, le-div-iff-mul-le, mod-le}
-use native.Mathlib.Decide.{ℕ-discrete}
 use native.Mathlib.Omega.{arith}
 use mathlib.Core.Path.{_≡_, refl, sym, ap, _∙_}
 use mathlib.Core.Bool.{Bool, true, false}
 use mathlib.Core.List.{List}
-use lib.Dec.{ltb, lit<}
+use lib.Dec.{leb, ltb, lit<}
 use lib.ListN.{length, getD, set}
-use lib.Seq.{getD-set-same, getD-set-other}
-use borrow.Author.Tests.{ltb-true, ltb-false}
-use Rattle.format.specs.Lists.{bit, up, lowDigits, spread}
+use borrow.Author.Tests.{leb-false, ltb-true, ltb-false}
+use Rattle.format.specs.Lists.{bit, over, up, lowDigits, spread}
 use Rattle.format.specs.Trits.{rank, trytes, tryteCount}
-use Rattle.format.proofs.Laws.{rank-zero, rank-count, rank-three, count-le}
+use Rattle.format.proofs.Laws.{length-each, getD-each, rank-zero, rank-count, rank-three, count-le}
 use Rattle.format.proofs.Digits.{below-digits, length-digits, lt-up, spread-gather-at}
+use Rattle.format.proofs.Over.{Over, over-none, over-next, over-all, over-in}
 use Rattle.format.proofs.Sizes.{length-trytes}
 use Rattle.format.proofs.ImageReads.{below-gather}
 use Rattle.trits.specs.Search.{Tryte}
 use Rattle.trits.proofs.Trytes.{entry-parts, cut-entry, rank-next}
 use Rattle.samples.specs.Lent.{TritsIn}
-use Rattle.proper.specs.Places.{Step, spot, TwosAt}
+use Rattle.proper.specs.Places.{stepFor, Spaced, spot, twoSamples, TwosAt}
 
 module _ {trits bs : List ℕ} (T : TritsIn trits bs) where
   pub trit-in : (p : ℕ) → getD (spread 3 5 bs) p 0 ≡ getD trits p 0
@@ -58,39 +57,52 @@ front-twos x r l h =
 -- ---- the samples
 
 -- the last one is among the 2,048
-module _ {l step : ℕ} (S : Step l step) where
+module _ {l step : ℕ} (S : Spaced l step) where
   pub last-low : (l / 5 + 6) / step < 2048
   last-low = div-lt-iff-lt-mul {k = step} {x = l / 5 + 6} {y = 2048} (S .some) .1 (S .enough)
 
   pub last-spot : (i : ℕ) → i ≤ (l / 5 + 6) / step → step * i ≤ l / 5 + 6
   last-spot i h = omega (arith, mul-le-mul-left step h, mul-div-le (l / 5 + 6) step)
 
--- those up to sample i are put, and n stand before it
-pub record Filling (trits : List ℕ) (step i n : ℕ) (twos : List ℕ) : Type 0 where
+-- 8 or 13 trytes from sample to sample
+pub spaced : {l : ℕ} → l ≤ 125536 → Spaced l (stepFor l)
+unfolding stepFor
+spaced {l} h = go (leb 81880 l) refl
+  where
+    go : (t : Bool) → leb 81880 l ≡ t → Spaced l (8 + 5 * bit t)
+    go true e = record { some = lit< tt; other = λ n. refl; enough = omega arith }
+    go false e = record { some = lit< tt; other = λ n. absurd (n refl); enough = omega (arith, leb-false 81880 l e) }
+
+-- the samples before i are put over `old`, and n twos stand before sample i
+pub record Filling (trits : List ℕ) (step i n : ℕ) (old twos : List ℕ) : Type 0 where
   pub reached : n ≡ rank 2 trits (5 * spot trits step i)
-  pub counted : (j : ℕ) → j ≤ i → getD twos j 0 ≡ rank 2 trits (5 * spot trits step j)
+  pub put : Over (twoSamples trits step) ((length trits / 5 + 6) / step + 1) old twos i
 
-none : (trits : List ℕ) (step : ℕ) → rank 2 trits (5 * spot trits step 0) ≡ 0
-none trits step = let e : 5 * spot trits step 0 ≡ 0 = omega (arith, mul-zero step) in rw e (rank-zero 2 trits)
+module _ (trits : List ℕ) (step : ℕ) (old : List ℕ) (room : (length trits / 5 + 6) / step < length old) where
+  abbrev last : ℕ
+  last = (length trits / 5 + 6) / step
 
-pub filling-none : (trits old : List ℕ) (step : ℕ) → 0 < length old → Filling trits step 0 0 (set old 0 0)
-filling-none trits old step l = record {
-  reached = sym (none trits step);
-  counted = λ j h. let e : j ≡ 0 = omega arith in rw (e, getD-set-same old 0 0 0 l) (sym (none trits step));
-}
+  size : length (twoSamples trits step) ≡ last + 1
+  unfolding twoSamples
+  size = length-each (last + 1) _
 
-module _ {trits : List ℕ} {step i n : ℕ} {twos : List ℕ} (F : Filling trits step i n twos) where
-  pub filling-next : {m : ℕ} → i + 1 < length twos → m ≡ rank 2 trits (5 * spot trits step (i + 1)) → Filling trits step (i + 1) m (set twos (i + 1) m)
-  filling-next {m} l e = record {
-    reached = e;
-    counted = λ j h. elim (ℕ-discrete j (i + 1)) [
-      | yes y ↦ rw (y, getD-set-same twos (i + 1) m 0 l) e
-      | no y ↦ getD-set-other twos (i + 1) j m 0 y ∙ F .counted j (omega (arith, y))
-    ];
-  }
+  pub filling-none : Filling trits step 0 0 old old
+  filling-none =
+      let e : 5 * spot trits step 0 ≡ 0 = omega (arith, mul-zero step) in
+      record { reached = rw e (sym (rank-zero 2 trits)); put = over-none (twoSamples trits step) (last + 1) old size (omega arith) }
 
-  pub filled : 0 < step → (length trits / 5 + 6) / step ≤ i → TwosAt trits step twos
-  filled s l j h = F .counted j (omega (arith, le-div-iff-mul-le {k = step} {x = j} {y = length trits / 5 + 6} s .1 (omega (arith, mul-comm j step))))
+  -- a list that begins with the samples has them
+  pub samples-at : 0 < step → TwosAt trits step (over (twoSamples trits step) old)
+  unfolding twoSamples
+  samples-at s i h =
+      let l : i ≤ last = le-div-iff-mul-le {k = step} {x = i} {y = length trits / 5 + 6} s .1 (omega (arith, mul-comm i step)) in
+      over-in (over-all (twoSamples trits step) (last + 1) old size (omega arith)) i (omega arith) ∙ getD-each (last + 1) _ i 0 (omega arith)
+
+pub filling-put : {trits old twos : List ℕ} {step i n : ℕ} → Filling trits step i n old twos → i ≤ (length trits / 5 + 6) / step
+    → Over (twoSamples trits step) ((length trits / 5 + 6) / step + 1) old (set twos i n) (i + 1)
+unfolding twoSamples
+filling-put {trits} {step = step} {i} {n} F l =
+    over-next (F .put) (omega arith) n (F .reached ∙ sym (getD-each ((length trits / 5 + 6) / step + 1) (λ (j : ℕ). rank 2 trits (5 * spot trits step j)) i 0 (omega arith)))
 
 -- ---- the nearest sample to tryte q
 
@@ -100,7 +112,7 @@ pub record Near (l step half q i : ℕ) : Type 0 where
   pub ahead : step * i ≤ q + half
   pub behind : q ≤ step * i + half
 
-pub near : {l step half q : ℕ} → Step l step → half ≤ 6 → step ≤ 2 * half + 1 → 5 * q < l → Near l step half q ((q + half) / step)
+pub near : {l step half q : ℕ} → Spaced l step → half ≤ 6 → step ≤ 2 * half + 1 → 5 * q < l → Near l step half q ((q + half) / step)
 near {l} {step} {half} {q} S h w b =
     let i : ℕ = (q + half) / step in
     let a : step * i ≤ q + half = mul-div-le (q + half) step in

@@ -1,8 +1,7 @@
 -- What is known of an image once its sections 1 and 2 have passed. Assumes nothing.
-use Prim.Native.Nat.{ℕ, _≤_}
+use Prim.Native.Nat.{ℕ}
 use mathlib.Core.Path.{_≡_}
 use mathlib.Core.List.{List}
-use lib.ListN.{length}
 use Rattle.format.specs.Image.{bytes, markWords}
 use Rattle.format.specs.Proper.{ProperTrits}
 use Rattle.samples.specs.Lent.{TritsIn}
@@ -10,7 +9,6 @@ use Rattle.samples.specs.Lent.{TritsIn}
 -- hs is section 2's contents: the shadows of proper trits, 2 bytes each
 pub record Shadowed (trits H hs : List ℕ) : Type 0 where
   pub proper : ProperTrits trits H
-  pub few : length H ≤ 65535
   pub shadows-are : hs ≡ bytes 2 H
 
 -- and bs is section 1's

@@ -5,8 +5,9 @@ use mathlib.Core.Bool.{Bool, _&&_}
 use mathlib.Core.List.{List}
 use lib.Dec.{eqb, leb}
 use lib.ListN.{length, getD}
+use Rattle.format.specs.Lists.{bit, each, same}
 use Rattle.format.specs.Trits.{rank, tryteCount}
-use Rattle.format.specs.Image.{shadowAt, read}
+use Rattle.format.specs.Image.{bytes, nodeCount, markedNodes, shadowAt, grouped, starts, read}
 use Rattle.proper.specs.declared.placed.Entry.{Entry}
 use Rattle.proper.specs.declared.placed.Entry.the-variants.{Wrong, Key}
 
@@ -14,8 +15,12 @@ use Rattle.proper.specs.declared.placed.Entry.the-variants.{Wrong, Key}
 abbrev pub TwoTable : List ℕ → Type 0
 TwoTable counts = (x : ℕ) → x < 243 → getD counts x 0 ≡ tryteCount 2 x 5
 
+-- trytes from sample to sample: 8, or 13 from 81,880 trits on
+unfoldable pub stepFor : ℕ → ℕ
+stepFor l = 8 + 5 * bit (leb 81880 l)
+
 -- with so many trytes from sample to sample, 8 or 13, 2,048 samples are enough for l trits and 6 trytes more
-pub record Step (l step : ℕ) : Type 0 where
+pub record Spaced (l step : ℕ) : Type 0 where
   pub some : 0 < step
   pub other : (step ≡ 8 → ⊥) → step ≡ 13
   pub enough : l / 5 + 6 < 2048 * step
@@ -24,7 +29,11 @@ pub record Step (l step : ℕ) : Type 0 where
 abbrev pub spot : List ℕ → ℕ → ℕ → ℕ
 spot trits step i = step * i - (step * i - length trits / 5)
 
--- the twos before each of these trytes
+-- the twos before each of these trytes, from the first one on
+unfoldable pub twoSamples : List ℕ → ℕ → List ℕ
+twoSamples trits step = each ((length trits / 5 + 6) / step + 1) (λ i. rank 2 trits (5 * spot trits step i))
+
+-- a list has them at its front
 abbrev pub TwosAt : List ℕ → ℕ → List ℕ → Type 0
 TwosAt trits step twos = (i : ℕ) → step * i ≤ length trits / 5 + 6 → getD twos i 0 ≡ rank 2 trits (5 * spot trits step i)
 
@@ -46,3 +55,14 @@ Answered trits H low p (Key x) = Rises trits H low p × (x ≡ key trits H p)
 -- a part of 4 bytes a number has number j, and that is x
 abbrev pub numberIs : List ℕ → ℕ → ℕ → Bool
 numberIs part j x = leb (4 * j + 4) (length part) && eqb (read 4 (4 * j) part) x
+
+-- ---- both sections
+
+-- firsts is as long as section 4, and part as section 5
+pub record Long (trits H firsts part : List ℕ) : Type 0 where
+  pub long4 : length firsts ≡ 4 * (length (markedNodes trits H) + 1)
+  pub long5 : length part ≡ 4 * length H
+
+-- firsts is section 4, and part is section 5
+abbrev pub bothRight : List ℕ → List ℕ → List ℕ → List ℕ → Bool
+bothRight trits H firsts part = same firsts (bytes 4 (starts trits H)) && same part (bytes 4 (grouped trits H (nodeCount trits)))

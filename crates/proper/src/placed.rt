@@ -1,4 +1,5 @@
 // Sections 4 and 5 by keys. A place's key is its node, then the place; section 5 is right exactly if its k places hold twos and their keys rise.
+use crate::started::number_at;
 use crate::started::smaller;
 use little::get2;
 use little::get4;
@@ -6,28 +7,20 @@ use little::wide;
 use trits::digits::power;
 use trits::digits::tryte_count;
 ghost use mathlib.Core.Path.{_≡_};
-ghost use mathlib.Core.Bool.{_&&_};
 ghost use mathlib.Core.List.{List};
 ghost use Prim.Native.Nat.{ℕ, _+_, _*_, _≤_, _<_};
 ghost use lib.ListN.{length, getD};
-ghost use Rattle.format.specs.Lists.{same, spread, countIn};
+ghost use Rattle.format.specs.Lists.{over, spread, countIn};
 ghost use Rattle.format.specs.Trits.{rank, tryteCount, tryteTable};
-ghost use Rattle.format.specs.Image.{bytes, nodeCount, markedNodes, grouped, starts, read};
+ghost use Rattle.format.specs.Image.{read};
 ghost use Rattle.samples.specs.Lent.{TritsIn};
 ghost use Rattle.proper.specs.Known.{Known};
-ghost use Rattle.proper.specs.Places.{TwoTable, Step, TwosAt, Answered, numberIs};
+ghost use Rattle.proper.specs.Places.{TwoTable, stepFor, Spaced, twoSamples, TwosAt, Answered, numberIs, Long, bothRight};
 
 // An entry of section 5: wrong, or its key.
 enum Entry {
     Wrong,
     Key(usize),
-}
-
-// A count of twos as an index.
-fn wide16(x: u16) -> usize
-    ensures { λ r. ⌜ r ≡ x ⌝ }
-{
-    x as usize
 }
 
 // How many twos each tryte has.
@@ -72,8 +65,7 @@ fn twos_to(bs: &[u8], counts: &[u8; 243], from: usize, end: usize, before: usize
 
 // How many trytes lie from sample to sample: 8 where 2,048 samples are then enough, with a few trits to spare, else 13.
 fn step_for(l: usize) -> usize
-    requires { ⌜ l ≤ 125536 ⌝ }
-    ensures { λ r. ⌜ Step l r ⌝ }
+    ensures { λ r. ⌜ r ≡ stepFor l ⌝ }
 {
     if l < 81880 {
         return 8;
@@ -83,22 +75,22 @@ fn step_for(l: usize) -> usize
 
 // Puts the twos before every tryte whose number is a multiple of `step`; past the whole trytes, the twos of all of these.
 fn sample_twos(bs: &[u8], counts: &[u8; 243], l: usize, step: usize, twos: &mut [u16; 2048])
-    requires { ⌜ TwoTable (now counts) × (length (now twos) ≡ 2048) × Step l step
+    requires { ⌜ TwoTable (now counts) × (length (now twos) ≡ 2048) × Spaced l step
         × ((trits : List ℕ) × TritsIn trits (now bs) × (length trits ≡ l) × (countIn 2 trits ≤ 65535)) ⌝ }
-    ensures { λ _. ⌜ ((trits : List ℕ) → TritsIn trits (now (bs .entry)) → length trits ≡ l → TwosAt trits step (now (twos .exit))) ⌝ }
+    ensures { λ _. ⌜ ((trits : List ℕ) → TritsIn trits (now (bs .entry)) → length trits ≡ l → now (twos .exit) ≡ over (twoSamples trits step) (now (twos .entry))) ⌝ }
 {
     let whole = l / 5;
     let last = (whole + 6) / step;
     let mut n: usize = 0;
     let mut i: usize = 0;
-    twos[0] = 0;
     while i < last {
+        twos[i] = n as u16;
         let from = smaller(step * i, whole);
         let end = smaller(step * (i + 1), whole);
         n = twos_to(bs, counts, from, end, n);
         i += 1;
-        twos[i] = n as u16;
     }
+    twos[i] = n as u16;
 }
 
 // The twos of trytes `from` up to `end`, which are at most `half`, in `half` turns: no turn is to be guessed, since places come in no order.
@@ -130,13 +122,13 @@ fn twos_near(
     half: usize,
     q: usize,
 ) -> usize
-    requires { ⌜ TwoTable (now counts) × (half ≤ 6) × (step ≤ 2 * half + 1) × Step l step
+    requires { ⌜ TwoTable (now counts) × (half ≤ 6) × (step ≤ 2 * half + 1) × Spaced l step
         × ((trits : List ℕ) × TritsIn trits (now bs) × (length trits ≡ l) × TwosAt trits step (now twos) × (5 * q < l)) ⌝ }
     ensures { λ r. ⌜ ((trits : List ℕ) → TritsIn trits (now (bs .entry)) → length trits ≡ l → TwosAt trits step (now (twos .entry))
         → r ≡ rank 2 trits (5 * q)) ⌝ }
 {
     let i = (q + half) / step;
-    let sample = wide16(twos[i]);
+    let sample = number_at(twos, i);
     let at = smaller(step * i, l / 5);
     let from = smaller(at, q);
     let n = twos_between(bs, counts, from, at + q - from, half);
@@ -155,7 +147,7 @@ fn twos_whole(
     step: usize,
     q: usize,
 ) -> usize
-    requires { ⌜ TwoTable (now counts) × Step l step
+    requires { ⌜ TwoTable (now counts) × Spaced l step
         × ((trits : List ℕ) × TritsIn trits (now bs) × (length trits ≡ l) × TwosAt trits step (now twos) × (5 * q < l)) ⌝ }
     ensures { λ r. ⌜ ((trits : List ℕ) → TritsIn trits (now (bs .entry)) → length trits ≡ l → TwosAt trits step (now (twos .entry))
         → r ≡ rank 2 trits (5 * q)) ⌝ }
@@ -175,7 +167,7 @@ fn twos_before(
     step: usize,
     p: usize,
 ) -> usize
-    requires { ⌜ TwoTable (now counts) × Step l step
+    requires { ⌜ TwoTable (now counts) × Spaced l step
         × ((trits : List ℕ) × TritsIn trits (now bs) × (length trits ≡ l) × TwosAt trits step (now twos) × (p < l)) ⌝ }
     ensures { λ r. ⌜ ((trits : List ℕ) → TritsIn trits (now (bs .entry)) → length trits ≡ l → TwosAt trits step (now (twos .entry)) → r ≡ rank 2 trits p) ⌝ }
 {
@@ -209,7 +201,7 @@ fn entry_key(
     e: usize,
     low: usize,
 ) -> Entry
-    requires { ⌜ TwoTable (now counts) × Step l step × (4 * e + 4 ≤ length (now part))
+    requires { ⌜ TwoTable (now counts) × Spaced l step × (4 * e + 4 ≤ length (now part))
         × ((trits : List ℕ) × (H : List ℕ) × Known trits H (now bs) (now hs) × (length trits ≡ l) × TwosAt trits step (now twos)) ⌝ }
     ensures { λ r. ⌜ ((trits H : List ℕ) → Known trits H (now (bs .entry)) (now (hs .entry)) → length trits ≡ l → TwosAt trits step (now (twos .entry))
         → Answered trits H low (read 4 (4 * e) (now (part .entry))) r) ⌝ }
@@ -247,18 +239,17 @@ fn number_is(part: &[u8], j: usize, x: usize) -> bool
 fn keys_right(
     bs: &[u8],
     hs: &[u8],
-    counts: &[u8; 243],
-    twos: &[u16; 2048],
     firsts: &[u8],
     part: &[u8],
+    counts: &[u8; 243],
+    twos: &[u16; 2048],
     l: usize,
     step: usize,
 ) -> bool
-    requires { ⌜ TwoTable (now counts) × Step l step
-        × ((trits : List ℕ) × (H : List ℕ) × Known trits H (now bs) (now hs) × (length trits ≡ l) × TwosAt trits step (now twos) × (length (now part) ≡ 4 * length H)) ⌝ }
+    requires { ⌜ TwoTable (now counts) × Spaced l step
+        × ((trits : List ℕ) × (H : List ℕ) × Known trits H (now bs) (now hs) × (length trits ≡ l) × TwosAt trits step (now twos) × Long trits H (now firsts) (now part)) ⌝ }
     ensures { λ r. ⌜ ((trits H : List ℕ) → Known trits H (now (bs .entry)) (now (hs .entry)) → length trits ≡ l → TwosAt trits step (now (twos .entry))
-        → length (now (firsts .entry)) ≡ 4 * (length (markedNodes trits H) + 1)
-        → r ≡ (same (now (firsts .entry)) (bytes 4 (starts trits H)) && same (now (part .entry)) (bytes 4 (grouped trits H (nodeCount trits))))) ⌝ }
+        → r ≡ bothRight trits H (now (firsts .entry)) (now (part .entry))) ⌝ }
 {
     let many = part.len() / 4;
     let mut low: usize = 0;
@@ -284,25 +275,24 @@ fn keys_right(
     number_is(firsts, j, many)
 }
 
-// Sections 4 and 5: the places of the twos, grouped by node rising, then by place; and the index of each node's first place, then k. `twos` is for
+// Sections 4 and 5: the places of the twos, grouped by node rising, then by place; and the index of each node's first place, then k. `twos` gets
 // the samples.
-pub fn index_right(
+pub fn both_by_keys(
     bs: &[u8],
     hs: &[u8],
-    table: &[u8; 243],
     firsts: &[u8],
     part: &[u8],
     l: usize,
+    table: &[u8; 243],
     twos: &mut [u16; 2048],
 ) -> bool
     requires { ⌜ (now table ≡ tryteTable) × (length (now twos) ≡ 2048)
-        × ((trits : List ℕ) × (H : List ℕ) × Known trits H (now bs) (now hs) × (length trits ≡ l) × (length (now part) ≡ 4 * length H)) ⌝ }
+        × ((trits : List ℕ) × (H : List ℕ) × Known trits H (now bs) (now hs) × (length trits ≡ l) × Long trits H (now firsts) (now part)) ⌝ }
     ensures { λ r. ⌜ ((trits H : List ℕ) → Known trits H (now (bs .entry)) (now (hs .entry)) → length trits ≡ l
-        → length (now (firsts .entry)) ≡ 4 * (length (markedNodes trits H) + 1)
-        → r ≡ (same (now (firsts .entry)) (bytes 4 (starts trits H)) && same (now (part .entry)) (bytes 4 (grouped trits H (nodeCount trits))))) ⌝ }
+        → (r ≡ bothRight trits H (now (firsts .entry)) (now (part .entry))) × (now (twos .exit) ≡ over (twoSamples trits (stepFor l)) (now (twos .entry)))) ⌝ }
 {
     let counts = two_table(table);
     let step = step_for(l);
     sample_twos(bs, &counts, l, step, twos);
-    keys_right(bs, hs, &counts, twos, firsts, part, l, step)
+    keys_right(bs, hs, firsts, part, &counts, twos, l, step)
 }

@@ -3,7 +3,7 @@ use Prim.Native.Nat.{_-_}
 use native.Mathlib.Omega.{arith}
 use mathlib.Core.Path.{sym, _∙_}
 use Rattle.format.specs.Image.{fromBytes}
-use Rattle.packing.proofs.OverLaws.{Over, over-none, over-length, over-next, over-done}
+use Rattle.format.proofs.Over.{Over, over-none, over-length, over-next, over-done}
 use Rattle.listing.proofs.TableLaws.{words-many, word-at}
 use Rattle.listing.proofs.read_words.Statement.{statement}
 use Rattle.listing.proofs.read_words.Tie as tie

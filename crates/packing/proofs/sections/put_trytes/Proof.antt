@@ -6,7 +6,7 @@ use native.Mathlib.Omega.{arith}
 use borrow.Author.Needs.{needs}
 use lib.ListN.{length}
 use Rattle.format.proofs.Sizes.{length-trytes}
-use Rattle.packing.proofs.OverLaws.{over-none, over-length, over-whole}
+use Rattle.format.proofs.Over.{over-none, over-length, over-whole}
 use Rattle.packing.proofs.SectionLaws.{Putting, put-tryte}
 use Rattle.packing.proofs.sections.put_trytes.Statement.{statement}
 use Rattle.packing.proofs.sections.put_trytes.Tie as tie

@@ -1,25 +1,26 @@
 -- `placed::keys_right` meets its contract: each turn holds one place to the keys before it, and its index to section 4. Assumes nothing.
-use Prim.Native.Nat.{ℕ, _-_, _*_, _≤_, _<_}
+use Prim.Native.Nat.{ℕ, _-_, _≤_, _<_}
 use native.Mathlib.Omega.{arith}
 use mathlib.Core.Path.{_≡_, sym, subst, _∙_}
 use mathlib.Core.List.{List}
 use borrow.Author.Needs.{needs}
 use lib.ListN.{length}
+use Rattle.format.proofs.Sums.{shadows-few}
 use Rattle.proper.specs.declared.placed.Entry.{Entry}
 use Rattle.proper.specs.declared.placed.Entry.the-variants.{Key}
 use Rattle.proper.specs.Known.{Known}
-use Rattle.proper.specs.Places.{TwosAt, Answered}
-use Rattle.proper.proofs.KeyLaws.{entries, many-are, key-small}
-use Rattle.proper.proofs.IndexLaws.{Indexed, indexed-none, indexed-wrong, indexed-same, indexed-differs, indexed-next, indexed-all}
+use Rattle.proper.specs.Places.{TwosAt, Answered, Long}
+use Rattle.proper.proofs.KeyLaws.{entries, key-small}
+use Rattle.proper.proofs.IndexLaws.{same-long, same-nodes, Indexed, indexed-none, indexed-wrong, indexed-same, indexed-differs, indexed-next, indexed-all}
 use Rattle.proper.proofs.placed.keys_right.Statement.{statement}
 use Rattle.proper.proofs.placed.keys_right.Tie as tie
 
 abbrev Inv-loop : tie.InvT-loop
-Inv-loop bs hs counts twos firsts part l step many low₀ j₀ e₀ low j e =
+Inv-loop bs hs firsts part counts twos l step many low₀ j₀ e₀ low j e =
     (e ≤ many) × (j ≤ e) × ((trits H : List ℕ) → Known trits H bs hs → length trits ≡ l → TwosAt trits step twos → Indexed trits H firsts part e low j)
 
 abbrev μ-loop : tie.MeasureT-loop
-μ-loop bs hs counts twos firsts part l step many low₀ j₀ e₀ low j e = many - e
+μ-loop bs hs firsts part counts twos l step many low₀ j₀ e₀ low j e = many - e
 
 -- the entry of a turn is answered by r
 abbrev Told : tie.At-loop Inv-loop μ-loop → Entry → Type 0
@@ -30,27 +31,27 @@ Told c r =
 told : (c : tie.After-entry-key Inv-loop μ-loop) → Told (c .before .before) (c .entry-key .result)
 told c = c .entry-key .ensures
 
--- part has as many entries as there are shadows
-full : (c : tie.Start Inv-loop μ-loop) → let x = c .args in (trits H : List ℕ) → Known trits H (x .bs .now) (x .hs .now) → length (x .part .now) ≡ 4 * length H
-full c trits H K = let p = c .pre .2 in omega (arith, p .5, many-are K, many-are (p .2))
+-- both sections are as long as they have to be
+long : (c : tie.Start Inv-loop μ-loop) → let x = c .args in (trits H : List ℕ) → Known trits H (x .bs .now) (x .hs .now) → length trits ≡ x .l → Long trits H (x .firsts .now) (x .part .now)
+long c trits H K n = let p = c .pre .2 in same-long (p .2) K (same-nodes (p .2 .trits-in) (K .trits-in) (p .3) n) (p .5)
 
 -- a turn's entry is one of them
 inside : (c : tie.In-loop Inv-loop μ-loop) → let x = c .before .before .before .before .before .before .args in
-    (trits H : List ℕ) → Known trits H (x .bs .now) (x .hs .now) → c .before .loop .e < length H
-inside c trits H K = omega (arith, full (c .before .before .before .before .before .before) trits H K)
+    (trits H : List ℕ) → Known trits H (x .bs .now) (x .hs .now) → length trits ≡ x .l → c .before .loop .e < length H
+inside c trits H K n = omega (arith, long (c .before .before .before .before .before .before) trits H K n .long5)
 
 few : (c : tie.At-loop Inv-loop μ-loop) → c .loop .j ≤ 65535
 few c =
     let s = c .before .before .before .before .before in
     let t = s .pre .2 in
-    omega (arith, full s (t .0) (t .1) (t .2), t .2 .shadowed .few)
+    omega (arith, t .5 .long5, shadows-few (t .2 .shadowed .proper))
 
 returns : tie.Need-returns Inv-loop μ-loop
 returns c =
     let x = c .before .before in
     let at = x .before .before in
-    λ trits H K n W long.
-    indexed-wrong (at .loop .inv .2 trits H K n W) (K .shadowed .proper) (inside (x .before) trits H K) (subst (Told at) (c .enum-told .given .1) (told x) trits H K n W)
+    λ trits H K n W.
+    indexed-wrong (at .loop .inv .2 trits H K n W) (K .shadowed .proper) (inside (x .before) trits H K n) (subst (Told at) (c .enum-told .given .1) (told x) trits H K n W)
 
 -- an entry that is right, with its key
 rises : (c : tie.After-key Inv-loop μ-loop) → Told (c .before .before .before .before) (Key (c .key .given .0 .0))
@@ -71,7 +72,7 @@ loop-again c =
       omega arith,
       λ trits H K n W.
           let r = rises k trits H K n W in
-          indexed-next (turn .before .loop .inv .2 trits H K n W) (K .shadowed .proper) (inside turn trits H K) (r .0) (r .1) (omega (arith, c .before .before .if1 .taken)) (omega arith)
+          indexed-next (turn .before .loop .inv .2 trits H K n W) (K .shadowed .proper) (inside turn trits H K n) (r .0) (r .1) (omega (arith, c .before .before .if1 .taken)) (omega arith)
           (sym (c .before .number-is .ensures) ∙ c .if2 .taken),
     )
 
@@ -79,9 +80,9 @@ returns-2 : tie.Need-returns-2 Inv-loop μ-loop
 returns-2 c =
     let k = c .before .before .before .before in
     let turn = k .before .before .before in
-    λ trits H K n W long.
+    λ trits H K n W.
     let r = rises k trits H K n W in
-    indexed-differs (turn .before .loop .inv .2 trits H K n W) (K .shadowed .proper) (inside turn trits H K) (r .0) (r .1) (omega (arith, c .before .before .if1 .taken)) (omega arith)
+    indexed-differs (turn .before .loop .inv .2 trits H K n W) (K .shadowed .proper) (inside turn trits H K n) (r .0) (r .1) (omega (arith, c .before .before .if1 .taken)) (omega arith)
     (sym (c .before .number-is .ensures) ∙ c .if2 .left)
 
 loop-again-2 : tie.Need-loop-again-2 Inv-loop μ-loop
@@ -92,18 +93,18 @@ loop-again-2 c =
       omega arith,
       λ trits H K n W.
           let r = rises k trits H K n W in
-          indexed-same (turn .before .loop .inv .2 trits H K n W) (K .shadowed .proper) (inside turn trits H K) (r .0) (r .1) (omega (arith, c .if1 .left)),
+          indexed-same (turn .before .loop .inv .2 trits H K n W) (K .shadowed .proper) (inside turn trits H K n) (r .0) (r .1) (omega (arith, c .if1 .left)),
     )
 
 returns-3 : tie.Need-returns-3 Inv-loop μ-loop
 returns-3 c =
     let at = c .before .before in
     let known = at .before in
-    λ trits H K n W long.
-    let f = full (known .before .before .before .before) trits H K in
+    λ trits H K n W.
+    let L = long (known .before .before .before .before) trits H K n in
     c .number-is2 .ensures
-    ∙ indexed-all (at .loop .inv .2 trits H K n W) (K .shadowed .proper) (omega arith) f (λ i l. omega (arith, known .shared-slice-known4 .given i))
-    (λ i l. omega (arith, known .before .shared-slice-known3 .given i)) long (omega arith)
+    ∙ indexed-all (at .loop .inv .2 trits H K n W) (K .shadowed .proper) (omega (arith, L .long5)) (λ i l. omega (arith, known .shared-slice-known4 .given i))
+    (λ i l. omega (arith, known .before .shared-slice-known3 .given i)) L (omega arith)
 
 pub keys-right-spec : {M : Type 1} → statement M
 keys-right-spec =

@@ -28,12 +28,12 @@ reach c =
     (omega (arith, N .ahead, c .smaller .ensures), omega (arith, N .behind, c .smaller .ensures, s .pre .4 .4), omega (arith, c .smaller .ensures))
 
 sampled : (c : tie.After-smaller) → let s = c .before .before .before .before in let x = s .args in
-    (trits : List ℕ) → length trits ≡ x .l → TwosAt trits (x .step) (x .twos .now) → c .before .wide16 .result ≡ rank 2 trits (5 * c .smaller .result)
+    (trits : List ℕ) → length trits ≡ x .l → TwosAt trits (x .step) (x .twos .now) → c .before .number-at .result ≡ rank 2 trits (5 * c .smaller .result)
 sampled c trits n W =
     let s = c .before .before .before .before in
     let x = s .args in
     let e : spot trits (x .step) ((x .q + x .half) / x .step) ≡ c .smaller .result = omega (arith, c .smaller .ensures) in
-    c .before .wide16 .ensures ∙ W ((x .q + x .half) / x .step) (omega (arith, nearest s .early)) ∙ ap (λ (k : ℕ). rank 2 trits (5 * k)) e
+    c .before .number-at .ensures .0 ∙ W ((x .q + x .half) / x .step) (omega (arith, nearest s .early)) ∙ ap (λ (k : ℕ). rank 2 trits (5 * k)) e
 
 -- the twos between
 between : (c : tie.After-twos-between) → let at = c .before .before in let x = at .before .before .before .before .args in
@@ -55,8 +55,7 @@ twos-near-spec =
     tie.close (tie.spec
     (λ c. let s = c .before in omega (arith, few s, s .pre .1, s .pre .4 .4))
     (λ c. search (needs, c .before .pre .3 .some))
-    (λ c. omega (arith, nearest (c .before) .low))
-    (λ c. nearest (c .before) .low) (λ c κs. search needs)
+    (λ c κs. let s = c .before .before in omega (arith, nearest s .low))
     (λ c. let s = c .before .before .before in omega (arith, few s, nearest s .early))
     (λ c κs. search needs) (λ c κs. search needs)
     (λ c. let at = c .before in let s = at .before .before .before .before in omega (arith, few s, reach at, s .pre .4 .4))
