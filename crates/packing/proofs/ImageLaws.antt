@@ -1,11 +1,11 @@
 -- Sections put one behind the other or one ahead of the other are put at once; where they lie by the layout; and that sections 1 and 2 stay while the
 -- others are put behind them. Assumes nothing.
-use Prim.Native.Nat.{ℕ, suc, _+_, _-_, _*_, _/_, _≤_}
+use Prim.Native.Nat.{ℕ, suc, _+_, _-_, _*_, _≤_}
 use native.Mathlib.Nat.{zero-add}
 use native.Mathlib.Omega.{arith}
 use mathlib.Core.Path.{_≡_, refl, sym, ap, ap₂, _∙_, subst}
 use mathlib.Core.List.{List, [], _∷_, _++_, append-nil, append-assoc, map}
-use lib.Dec.{T, eqb, eqb-refl, lit<}
+use lib.Dec.{T, eqb, eqb-refl}
 use lib.ListN.{length, getD, take, drop, length-append, take-append-drop}
 use lib.Seq.{drop-drop, drop-at, take-at, take-append-le, take-take, length-take-le}
 use Rattle.format.specs.Lists.{over, up, countIn}
@@ -20,20 +20,20 @@ use Rattle.format.proofs.Digits.{length-digits}
 use Rattle.format.proofs.Sizes.{size, length-bytes, length-written}
 use Rattle.format.proofs.CheckLaws.{shadow-nodes, limits-nodes}
 use Rattle.format.proofs.ImageReads.{sizeOf, sectionOf, uniforms, image-sectioned}
-use Rattle.format.proofs.Order.{counts, fits-length}
-use Rattle.format.proofs.Accepting.{proper-table, packable, reads-as}
+use Rattle.format.proofs.Order.{counts}
+use Rattle.format.proofs.Accepting.{proper-table, packable}
 use Rattle.little.specs.Put.{putAt}
 use Rattle.little.proofs.Laws.{put-more, put-before, length-put}
 use Rattle.marks.specs.Uses.{Uses, FirstIndices}
 use Rattle.samples.specs.Lent.{TritsAt, ShadowsAt}
 use Rattle.samples.specs.Places.{Ready, groupEnds}
-use Rattle.samples.specs.Samples.{Plan}
+use Rattle.samples.specs.Samples.{far, middle, near, sampleSection, Plan}
 use Rattle.samples.proofs.PlaceLaws.{length-ends}
-use Rattle.samples.proofs.SampleLaws.{far-pairs}
+use Rattle.samples.proofs.SampleLaws.{paced, far-section}
 use Rattle.trits.specs.declared.Layout.{Layout}
 use Rattle.trits.specs.Layout.{layout}
 use Rattle.packing.specs.Work.{graphOf, startOf, usesOf}
-use Rattle.packing.specs.Packed.{layoutOf, Planned, LaidOut, front, Started, sampled}
+use Rattle.packing.specs.Packed.{layoutOf, Planned, LaidOut, front, Started}
 use Rattle.packing.proofs.PackLaws.{roots-at}
 
 -- ---- puts
@@ -200,23 +200,22 @@ module _ {trits H : List ℕ} {lay : Layout} {l : List ℕ} (d : LaidOut trits H
       rw (both .is) at (nine .is)
 
   pub plan6 : Plan 65725 2 4 (lay .trits) (lay .at6) l
-  plan6 = record { trytewise = refl; steps = lit< tt; fans = lit< tt; widths = λ a b. absurd (a refl); room = omega (arith, offsets, sized .size-of 5) }
+  plan6 = record { paced = paced far; room = omega (arith, offsets, sized .size-of 5) }
 
   pub plan7 : Plan 275 239 2 (lay .trits) (lay .at7) l
-  plan7 = record { trytewise = refl; steps = lit< tt; fans = lit< tt; widths = λ a b. absurd (b refl); room = omega (arith, offsets, sized .size-of 6) }
+  plan7 = record { paced = paced middle; room = omega (arith, offsets, sized .size-of 6) }
 
   pub plan8 : Plan 25 11 1 (lay .trits) (lay .at8) l
-  plan8 = record { trytewise = refl; steps = lit< tt; fans = lit< tt; widths = λ a b. refl; room = omega (arith, offsets, sized .size-of 7) }
+  plan8 = record { paced = paced near; room = omega (arith, offsets, sized .size-of 7) }
 
   -- section 6 counts from place 0
-  pub samples-put : {a b r : List ℕ} → a ≡ putAt l (lay .at6 - 4) (written (sampled 65725 2 4 trits ∷ [])) → b ≡ putAt a (lay .at7 - 4) (written (section7 trits H ∷ []))
+  pub samples-put : {a b r : List ℕ} → a ≡ putAt l (lay .at6 - 4) (written (sampleSection 65725 2 4 trits ∷ [])) → b ≡ putAt a (lay .at7 - 4) (written (section7 trits H ∷ []))
       → r ≡ putAt b (lay .at8 - 4) (written (section8 trits H ∷ [])) → r ≡ putAt l (lay .at6 - 4) (written (section6 trits H ∷ section7 trits H ∷ section8 trits H ∷ []))
   unfolding section6
   samples-put {a} {b} {r} ea eb er =
       let o = offsets in
-      let far : sampled 65725 2 4 trits ≡ section6 trits H = λ i. record { entries = length trits / 65725 + 1; contents = bytes 4 (far-pairs trits (d .proper .length-high) i) } in
       let six : Puts (lay .at6) (section6 trits H ∷ []) l a =
-      record { counted = omega arith; inside = omega arith; is = ea ∙ ap (λ (s : Section). putAt l (lay .at6 - 4) (written (s ∷ []))) far } in
+      record { counted = omega arith; inside = omega arith; is = ea ∙ ap (λ (s : Section). putAt l (lay .at6 - 4) (written (s ∷ []))) (far-section trits H (d .proper .length-high)) } in
       let seven : Puts (lay .at7) (section7 trits H ∷ []) a b = record { counted = omega arith; inside = omega (arith, puts-size six); is = eb } in
       let eight : Puts (lay .at8) (section8 trits H ∷ []) b r = record { counted = omega arith; inside = omega (arith, puts-size six, puts-size seven); is = er } in
       puts-behind (puts-behind six seven (omega arith)) eight (omega arith) .is
@@ -242,12 +241,12 @@ module _ {trits H : List ℕ} {lay : Layout} {l : List ℕ} (d : LaidOut trits H
       puts-behind fore (puts-ahead aft five (omega arith)) (omega arith) .is ∙ ap (λ (k : ℕ). image trits H ++ drop k l) (zero-add (length (image trits H)))
 
 pub plan-stays : {step fan width L at : ℕ} {l m : List ℕ} → Plan step fan width L at l → length m ≡ length l → Plan step fan width L at m
-plan-stays p e = record { trytewise = p .trytewise; steps = p .steps; fans = p .fans; widths = p .widths; room = rw e (p .room) }
+plan-stays p e = record { paced = p .paced; room = rw e (p .room) }
 
 -- ---- sections 1 and 2 stand
 
 laid-stays : {trits H : List ℕ} {lay : Layout} {l m : List ℕ} → LaidOut trits H lay l → length m ≡ length l → LaidOut trits H lay m
-laid-stays d e = record { proper = d .proper; few = d .few; is = d .is; room = rw e (d .room) }
+laid-stays d e = record { proper = d .proper; is = d .is; room = rw e (d .room) }
 
 pub started : {trits H : List ℕ} {lay : Layout} {l m : List ℕ} → LaidOut trits H lay l → length m ≡ length l → m ≡ putAt l 0 (front trits H) → Started trits H lay m
 started {trits} {H} d n e =
@@ -356,10 +355,8 @@ module _ {table work image : List ℕ} {lay : Layout} (p : Planned table work la
   unfolding layoutOf imageOf nodeCount
   laid-walk =
       let c = counted in
-      let f = packable table g is-accepted .formed in
       record {
         proper = proper-table table g is-accepted;
-        few = omega (arith, c .shadows, c .twos, fits-length (nodes g) (g .roots) (f .roots-nodup) (f .roots-inside), reads-as table g is-accepted .2 .edges-fit);
         is = p .laid ∙ ap₂ (λ (n r : ℕ). layout (length (walk g .trits)) n r (length (walk g .shadows)) (length (markedNodes (walk g .trits) (walk g .shadows)))) (sym (c .ones))
             (sym (ap (λ (x : Layout). x .roots) (p .laid)));
         room = p .room;

@@ -1,12 +1,12 @@
 -- What the packer's last functions hand to each other: a walked table, the layout of its image, and buffers with room. Assumes nothing.
-use Prim.Native.Nat.{ℕ, _+_, _*_, _/_, _≤_}
+use Prim.Native.Nat.{ℕ, _*_, _≤_}
 use mathlib.Core.Path.{_≡_}
 use mathlib.Core.List.{List, [], _∷_}
 use lib.ListN.{length, replicate, take}
 use Rattle.format.specs.Lists.{over}
 use Rattle.format.specs.Table.{Graph, nodes, edges}
 use Rattle.format.specs.Level.{walk}
-use Rattle.format.specs.Image.{bytes, markedNodes, nodeCount, pairs, lastMultiple, Section, section1, section2, written, image}
+use Rattle.format.specs.Image.{markedNodes, nodeCount, section1, section2, written, image}
 use Rattle.format.specs.Packing.{imageOf, packOutcome, packLeaves}
 use Rattle.format.specs.declared.Packed.{Packed}
 use Rattle.trits.specs.declared.Layout.{Layout}
@@ -29,7 +29,6 @@ pub record Planned (table work : List ℕ) (lay : Layout) (image : List ℕ) : T
 -- lay is the layout of the image of trits and shadows, and the buffer has room for it
 pub record LaidOut (trits H : List ℕ) (lay : Layout) (buffer : List ℕ) : Type 0 where
   pub proper : ProperTrits trits H
-  pub few : length H ≤ 65535
   pub is : lay ≡ layout (length trits) (nodeCount trits) (lay .roots) (length H) (length (markedNodes trits H))
   pub room : length (image trits H) ≤ length buffer
 
@@ -41,10 +40,6 @@ front trits H = written (section1 trits H ∷ section2 trits H ∷ [])
 pub record Started (trits H : List ℕ) (lay : Layout) (buffer : List ℕ) : Type 0 where
   pub laid : LaidOut trits H lay buffer
   pub stands : take (length (front trits H)) buffer ≡ front trits H
-
--- section 6, 7 or 8: pairs of numbers of `width` bytes at every multiple of a step, counted from the last multiple of `fan` steps
-abbrev pub sampled : ℕ → ℕ → ℕ → List ℕ → Section
-sampled step fan width trits = record { entries = length trits / step + 1; contents = bytes width (pairs step (lastMultiple (step * fan)) trits) }
 
 -- a table that is read, of n nodes, m edges and c roots
 pub record Measured (table : List ℕ) (n m c : ℕ) : Type 0 where

@@ -10,9 +10,9 @@ ghost use Rattle.little.specs.Put.{putAt};
 ghost use Rattle.marks.specs.Uses.{Uses};
 ghost use Rattle.samples.specs.Lent.{Rule};
 ghost use Rattle.samples.specs.Places.{groupEnds};
-ghost use Rattle.samples.specs.Samples.{Plan};
+ghost use Rattle.samples.specs.Samples.{sampleSection, Plan};
 ghost use Rattle.packing.specs.Work.{graphOf};
-ghost use Rattle.packing.specs.Packed.{Planned, LaidOut, Started, front, sampled};
+ghost use Rattle.packing.specs.Packed.{Planned, LaidOut, Started, front};
 
 // Sections 1 and 2, from the table and its walk.
 fn put_walk(table: &[u16], work: &[u32], image: &mut [u8], lay: trits::Layout)
@@ -73,7 +73,7 @@ fn put_places(uses: &mut [u32], image: &mut [u8], lay: trits::Layout)
 }
 
 // Section 6, 7 or 8, from section 1 by the table of trytes: its contents start at `at`.
-fn put_level(
+fn put_sample_section(
     image: &mut [u8],
     lay: trits::Layout,
     table: &[u8; 243],
@@ -84,7 +84,7 @@ fn put_level(
 )
     requires { ⌜ ((trits : List ℕ) × (H : List ℕ) × Started trits H lay (now image) × Plan step fan width (lay .trits) at (now image) × (lay .at3 ≤ at) × Rule (now table)) ⌝ }
     ensures { λ _. ⌜ ((trits H : List ℕ) → Started trits H lay (now (image .entry))
-        → (now (image .exit) ≡ putAt (now (image .entry)) (at - 4) (written (sampled step fan width trits ∷ [])))
+        → (now (image .exit) ≡ putAt (now (image .entry)) (at - 4) (written (sampleSection step fan width trits ∷ [])))
         × Started trits H lay (now (image .exit))) ⌝ }
 {
     let total = lay.trits;
@@ -102,11 +102,11 @@ fn put_samples(image: &mut [u8], lay: trits::Layout)
 {
     let table = trits::digits::tryte_table();
     let at6 = lay.at6;
-    put_level(image, lay, &table, 65725, 2, 4, at6);
+    put_sample_section(image, lay, &table, 65725, 2, 4, at6);
     let at7 = lay.at7;
-    put_level(image, lay, &table, 275, 239, 2, at7);
+    put_sample_section(image, lay, &table, 275, 239, 2, at7);
     let at8 = lay.at8;
-    put_level(image, lay, &table, 25, 11, 1, at8);
+    put_sample_section(image, lay, &table, 25, 11, 1, at8);
 }
 
 // The whole image; the work's first n words are left as section 5's writer leaves them.

@@ -11,8 +11,10 @@ use Rattle.format.specs.Faults.{fault, _then_}
 use Rattle.format.specs.Lists.{same}
 use Rattle.format.specs.Image.{Section}
 use Rattle.format.specs.Proper.{countOf, contentsOf, restOf, sectionFault, givenFault, checkGiven, SectionGives}
-use Rattle.format.specs.Answers.{refusalNumber}
+use Rattle.format.specs.Answers.{refusalNumber, checkedNumber}
 use Rattle.format.specs.declared.Refusal.{Refusal}
+use Rattle.format.specs.declared.Checked.{Checked}
+use Rattle.format.specs.declared.Checked.the-variants.{Refused}
 use Rattle.format.proofs.FaultLaws.{then-yes, then-no, then-zero, then-assoc, then-none, fault-yes, fault-no, fault-zero}
 use Rattle.format.proofs.CheckLaws.{section-gives}
 use Rattle.format.proofs.OneToOne.{refusal-some}
@@ -97,3 +99,8 @@ module _ (s : Section) (ss : List Section) (b : List ℕ) where
     both-open a t et =
         ap (λ (x : Bool). fault 25 x then checkGiven ss (restOf size b)) et ∙ fault-both a (same part (s .contents)) _
         ∙ ap (λ (x : ℕ). fault 25 a then x) (first-open refl)
+
+-- a fault at the front of the first one
+pub open-refused : {s : Section} {entries size : ℕ} → Front s entries size → (ss : List Section) (b : List ℕ) {f : Refusal} {r : Checked} → r ≡ Refused f
+    → checkedNumber r ≡ opens 25 entries size b → refusalNumber f ≡ checkGiven (s ∷ ss) b
+open-refused F ss b {f} er e = first-refused _ ss b f (given-refused F b f (sym (ap checkedNumber er) ∙ e))

@@ -1,6 +1,6 @@
 -- Sections 6, 7 and 8 pair by pair: the counts at a sample are its pair, so a section is right exactly if every pair holds its counts. Assumes nothing.
-use Prim.Native.Nat.{ℕ, _+_, _*_, _/_, _≤_, _<_}
-use native.Mathlib.Nat.{add-zero, mul-assoc, mul-add, mul-suc, mul-comm, mul-le-mul-left, mul-div-le, zero-mod}
+use Prim.Native.Nat.{ℕ, _+_, _*_, _/_, _^_, _≤_, _<_}
+use native.Mathlib.Nat.{add-zero, mul-suc, mul-comm, mul-le-mul-left, zero-mod}
 use native.Mathlib.Decide.{ℕ-discrete}
 use native.Mathlib.Omega.{arith}
 use mathlib.Core.Path.{_≡_, refl, sym, ap, _∙_}
@@ -18,20 +18,20 @@ use Rattle.format.proofs.Steps.{bytes-same, bytes-differ}
 use Rattle.format.proofs.ImageReads.{pairs-at, fits6, fits7, fits8}
 use Rattle.samples.specs.declared.Counts.{Counts}
 use Rattle.samples.specs.Lent.{TritsIn}
-use Rattle.samples.specs.Samples.{Width, Counting, Step}
-use Rattle.samples.proofs.SampleLaws.{none, counting-anew, pair-is, far-pairs}
-use Rattle.proper.specs.Samples.{Level, far, middle, near, Planned, pairHolds}
+use Rattle.samples.specs.Samples.{Width, Sampling, far, middle, near, Paced, Counting, Step}
+use Rattle.samples.proofs.SampleLaws.{none, counting-anew, pair-is, paced, step-follows, far-pairs}
+use Rattle.proper.specs.Samples.{Planned, pairHolds}
 
 -- ---- the three sections
 
-pub planned : {i step fan width : ℕ} → Level i step fan width → (trits part : List ℕ) → length trits ≤ 125536
+numbers-fit : {i step fan width : ℕ} → Sampling i step fan width → (trits : List ℕ) → length trits ≤ 125536 → Below (256 ^ width) (pairs step (lastMultiple (step * fan)) trits)
+numbers-fit far trits few = rw (far-pairs trits few) (fits6 trits few)
+numbers-fit middle trits few = fits7 trits
+numbers-fit near trits few = fits8 trits
+
+pub planned : {i step fan width : ℕ} → Sampling i step fan width → (trits part : List ℕ) → length trits ≤ 125536
     → length part ≡ width * (2 * (length trits / step + 1)) → Planned trits step fan width part
-planned far trits part few e =
-    record { trytewise = refl; steps = lit< tt; fans = lit< tt; widths = λ n _. absurd (n refl); full = e; fits = rw (far-pairs trits few) (fits6 trits few) }
-planned middle trits part few e =
-    record { trytewise = refl; steps = lit< tt; fans = lit< tt; widths = λ _ n. absurd (n refl); full = e; fits = fits7 trits }
-planned near trits part few e =
-    record { trytewise = refl; steps = lit< tt; fans = lit< tt; widths = λ _ _. refl; full = e; fits = fits8 trits }
+planned s trits part few e = record { paced = paced s; full = e; fits = numbers-fit s trits few }
 
 -- ---- numbers in a section
 
@@ -67,6 +67,9 @@ pub record Passed (trits : List ℕ) (step fan width q : ℕ) (c : Counts) (part
   pub right : (k : ℕ) → k < 2 * q → read width (width * k) part ≡ getD (pairs step (lastMultiple (step * fan)) trits) k 0
 
 module _ {trits : List ℕ} {step fan width : ℕ} {part : List ℕ} (P : Planned trits step fan width part) where
+  abbrev own : Paced step fan width
+  own = P .paced
+
   abbrev numbers : List ℕ
   numbers = pairs step (lastMultiple (step * fan)) trits
 
@@ -74,15 +77,12 @@ module _ {trits : List ℕ} {step fan width : ℕ} {part : List ℕ} (P : Planne
   pair-room {q} e h = rw (P .full, e) (mul-le-mul-left width (omega arith))
 
   pub passed-none : Passed trits step fan width 0 none part
-  passed-none = record { counting = counting-anew (P .fans) (zero-mod fan); right = below-none _ }
+  passed-none = record { counting = counting-anew (own .fans) (zero-mod fan); right = below-none _ }
 
   module _ {q : ℕ} {c : Counts} (S : Passed trits step fan width q c part) where
     -- a whole step follows
     pub passed-step : {bs : List ℕ} {L : ℕ} → TritsIn trits bs → length trits ≡ L → q < L / step → Step trits bs (step / 5) fan q c
-    passed-step {L = L} T n h =
-        let m : ℕ = step / 5 in
-        let s : 5 * (m * q + m) ≡ step * q + step = rw (mul-add 5, ← mul-assoc, P .trytewise) in
-        record { trits-in = T; counting = rw (P .trytewise) (S .counting); inside = omega (arith, mul-le-mul-left step h, mul-suc step q, mul-div-le L step) }
+    passed-step T n h = step-follows own T (S .counting) n h
 
     module _ {L : ℕ} (n : length trits ≡ L) (h : q ≤ L / step) where
       early : q < length trits / step + 1
@@ -91,11 +91,11 @@ module _ {trits : List ℕ} {step fan width : ℕ} {part : List ℕ} (P : Planne
       -- numbers 2q and 2q + 1 are the counts
       zeros-at : getD numbers (2 * q) 0 ≡ c .zeros
       unfolding pair
-      zeros-at = rw (← add-zero (2 * q)) (pairs-at step (lastMultiple (step * fan)) trits q 0 early (lit< tt) ∙ ap (λ (l : List ℕ). getD l 0 0) (pair-is (S .counting) (P .steps)))
+      zeros-at = rw (← add-zero (2 * q)) (pairs-at step (lastMultiple (step * fan)) trits q 0 early (lit< tt) ∙ ap (λ (l : List ℕ). getD l 0 0) (pair-is (S .counting) (own .steps)))
 
       ones-at : getD numbers (2 * q + 1) 0 ≡ c .ones
       unfolding pair
-      ones-at = pairs-at step (lastMultiple (step * fan)) trits q 1 early (lit< tt) ∙ ap (λ (l : List ℕ). getD l 1 0) (pair-is (S .counting) (P .steps))
+      ones-at = pairs-at step (lastMultiple (step * fan)) trits q 1 early (lit< tt) ∙ ap (λ (l : List ℕ). getD l 1 0) (pair-is (S .counting) (own .steps))
 
       -- so a number that differs from its count shows, and two that do not are right
       wrong : (k x : ℕ) → k < 2 * (q + 1) → getD numbers k 0 ≡ x → eqb (read width (width * k) part) x ≡ false → same part (bytes width numbers) ≡ false
@@ -115,10 +115,10 @@ module _ {trits : List ℕ} {step fan width : ℕ} {part : List ℕ} (P : Planne
 
       pub passed-next : {t : Bool} {d : Counts} → t ≡ pairHolds width q part (c .zeros) (c .ones) → not t ≡ false → Counting trits (5 * (step / 5)) fan (q + 1) d
           → Passed trits step fan width (q + 1) d part
-      passed-next e f C = record { counting = rw (P .trytewise) at C; right = right-pair (sym e ∙ not-false _ f) }
+      passed-next e f C = record { counting = rw (own .trytewise) at C; right = right-pair (sym e ∙ not-false _ f) }
 
       -- at the last sample its pair decides
       pub passed-all : {t : Bool} → t ≡ pairHolds width q part (c .zeros) (c .ones) → q ≡ L / step → Below 256 part → t ≡ same part (bytes width numbers)
       passed-all e last low =
           let len : length numbers ≡ 2 * (q + 1) = rw (length-pairs, n, last) in
-          e ∙ decide _ _ (λ h. bytes-same width part numbers (width-some (P .widths)) low (rw length-pairs (P .full)) (λ i l. right-pair h i (omega arith))) wrong-pair
+          e ∙ decide _ _ (λ h. bytes-same width part numbers (width-some (own .widths)) low (rw length-pairs (P .full)) (λ i l. right-pair h i (omega arith))) wrong-pair

@@ -19,7 +19,7 @@ ghost use Rattle.format.specs.Answers.{refusalNumber, checkedNumber};
 ghost use Rattle.samples.specs.Lent.{TritsIn};
 ghost use Rattle.trits.specs.Layout.{layoutOf};
 ghost use Rattle.proper.specs.Known.{Known, Shadowed, Marked};
-ghost use Rattle.proper.specs.Samples.{Level, levelOf};
+ghost use Rattle.samples.specs.Samples.{Sampling, sampleSection};
 ghost use Rattle.proper.specs.Examined.{Examines, opens, laying, FirstPassed, Sized, Through, Counted, givenFrom, check2, shadows2};
 
 // The layout of a proper image, or the refusal.
@@ -92,7 +92,7 @@ fn from9(marks: &[u8], rest: &[u8], lay: trits::Layout) -> Checked
 }
 
 // Section 6, 7 or 8.
-fn level(
+fn sample_section(
     bs: &[u8],
     table: &[u8; 243],
     rest: &[u8],
@@ -101,8 +101,8 @@ fn level(
     fan: usize,
     width: usize,
 ) -> Checked
-    requires { ⌜ (now table ≡ tryteTable) × ((i : ℕ) × Level i step fan width) × ((trits : List ℕ) × TritsIn trits (now bs) × (length trits ≡ l)) ⌝ }
-    ensures { λ r. ⌜ ((trits : List ℕ) → TritsIn trits (now (bs .entry)) → length trits ≡ l → checkedNumber r ≡ givenFault (levelOf step fan width trits) (now (rest .entry))) ⌝ }
+    requires { ⌜ (now table ≡ tryteTable) × ((i : ℕ) × Sampling i step fan width) × ((trits : List ℕ) × TritsIn trits (now bs) × (length trits ≡ l)) ⌝ }
+    ensures { λ r. ⌜ ((trits : List ℕ) → TritsIn trits (now (bs .entry)) → length trits ≡ l → checkedNumber r ≡ givenFault (sampleSection step fan width trits) (now (rest .entry))) ⌝ }
 {
     let entries = l / step + 1;
     let size = width * (2 * entries);
@@ -124,10 +124,10 @@ struct Plan {
     width: usize,
 }
 
-// The plan of section 6, 7 or 8: level 0, 1 or 2.
+// The plan of section 6 + i.
 fn plan_of(i: usize) -> Plan
     requires { ⌜ i < 3 ⌝ }
-    ensures { λ r. ⌜ Level i (r .step) (r .fan) (r .width) ⌝ }
+    ensures { λ r. ⌜ Sampling i (r .step) (r .fan) (r .width) ⌝ }
 {
     if i == 0 {
         return Plan {
@@ -163,7 +163,7 @@ fn from6(bs: &[u8], marks: &[u8], table: &[u8; 243], rest: &[u8], lay: trits::La
         let step = p.step;
         let fan = p.fan;
         let width = p.width;
-        if let Checked::Refused(f) = level(bs, table, left, l, step, fan, width) {
+        if let Checked::Refused(f) = sample_section(bs, table, left, l, step, fan, width) {
             return Checked::Refused(f);
         }
         let size = width * (2 * (l / step + 1));
@@ -208,7 +208,7 @@ fn from5(
     let table = trits::digits::tryte_table();
     let l = lay.trits;
     let n = lay.nodes;
-    let right = crate::ordered::both_right(bs, hs, &table, firsts, contents(rest, size), l, n);
+    let right = crate::ordered::both_right(bs, hs, firsts, contents(rest, size), &table, l, n);
     if right {
         return from6(bs, marks, &table, after(rest, size), lay);
     }

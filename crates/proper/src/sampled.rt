@@ -3,6 +3,7 @@ use little::get1;
 use little::get2;
 use little::get4;
 use samples::Counts;
+use samples::NONE;
 use samples::next_counts;
 ghost use mathlib.Core.Path.{_≡_};
 ghost use mathlib.Core.List.{List};
@@ -60,11 +61,7 @@ pub fn samples_right(
 {
     let many = step / 5;
     let last = l / step;
-    let mut c = Counts {
-        zeros: 0,
-        ones: 0,
-        steps: 0,
-    };
+    let mut c = NONE;
     let mut q = 0;
     while q < last {
         if !pair_right(part, width, q, c) {

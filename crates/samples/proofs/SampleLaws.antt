@@ -10,7 +10,7 @@ use lib.ListN.{length, getD, take, drop}
 use lib.Seq.{ext-getD}
 use Rattle.format.specs.Lists.{run, each, join, lowDigits, spread, up}
 use Rattle.format.specs.Trits.{rank, trytes, tryteCount}
-use Rattle.format.specs.Image.{leBytes, bytes, pair, pairs, lastMultiple}
+use Rattle.format.specs.Image.{leBytes, bytes, pair, pairs, lastMultiple, section6}
 use Rattle.format.proofs.Laws.{rank-le, run-snoc, join-append, length-run}
 use Rattle.format.proofs.Digits.{gather-at, horner-lt, below-block, length-digits, length-block, length-blocks, lt-up}
 use Rattle.format.proofs.Select.{rank-tryte}
@@ -20,7 +20,7 @@ use Rattle.little.specs.Put.{putAt}
 use Rattle.little.proofs.Laws.{put-more, put-same, put-before, bytes-append}
 use Rattle.samples.specs.declared.Counts.{Counts}
 use Rattle.samples.specs.Lent.{Rule, TritsIn, TritsAt}
-use Rattle.samples.specs.Samples.{Plan, CountedFrom, Counting, Step}
+use Rattle.samples.specs.Samples.{Sampling, far, middle, near, sampleSection, Paced, Plan, CountedFrom, Counting, Step}
 
 -- ---- one tryte
 
@@ -130,12 +130,30 @@ pub pair-put : (w at zeros ones : ℕ) (l : List ℕ) {m r : List ℕ} → at �
 unfolding bytes spread
 pair-put w at zeros ones l h ez eo = rw append-nil (put-more at (at + w) l (leBytes w zeros) (leBytes w ones) h (rw length-digits) ez eo)
 
+-- ---- a section
+
+pub paced : {i step fan width : ℕ} → Sampling i step fan width → Paced step fan width
+paced far = record { trytewise = refl; steps = lit< tt; fans = lit< tt; widths = λ n _. absurd (n refl) }
+paced middle = record { trytewise = refl; steps = lit< tt; fans = lit< tt; widths = λ _ n. absurd (n refl) }
+paced near = record { trytewise = refl; steps = lit< tt; fans = lit< tt; widths = λ _ _. refl }
+
+-- before the last sample a whole step follows
+pub step-follows : {trits bs : List ℕ} {step fan width q L : ℕ} {c : Counts} → Paced step fan width → TritsIn trits bs → Counting trits step fan q c → length trits ≡ L → q < L / step
+    → Step trits bs (step / 5) fan q c
+step-follows {step = step} {q = q} {L} P T C n h =
+    let m : ℕ = step / 5 in
+    let s : 5 * (m * q + m) ≡ step * q + step = rw (mul-add 5, ← mul-assoc, P .trytewise) in
+    record { trits-in = T; counting = rw (P .trytewise) C; inside = omega (arith, mul-le-mul-left step h, mul-suc step q, mul-div-le L step) }
+
 -- the samples before q are put over the old image, and c has the counts at sample q
 pub record Sampled (trits : List ℕ) (step fan width q : ℕ) (c : Counts) (at : ℕ) (old image : List ℕ) : Type 0 where
   pub counting : Counting trits step fan q c
   pub done : image ≡ putAt old at (bytes width (pairsTo step (lastMultiple (step * fan)) trits q))
 
 module _ {step fan width L at : ℕ} {old : List ℕ} (P : Plan step fan width L at old) where
+  abbrev own : Paced step fan width
+  own = P .paced
+
   -- sample q lies in the section
   pub sample-room : (q : ℕ) → q ≤ L / step → at + 2 * width * q + 2 * width ≤ length old
   sample-room q h =
@@ -145,7 +163,7 @@ module _ {step fan width L at : ℕ} {old : List ℕ} (P : Plan step fan width L
 
   pub sampled-none : {trits : List ℕ} → Sampled trits step fan width 0 none at old old
   unfolding pairsTo bytes spread
-  sampled-none = record { counting = counting-anew (P .fans) (zero-mod fan); done = sym (put-same at 0 old (omega (arith, P .room))) }
+  sampled-none = record { counting = counting-anew (own .fans) (zero-mod fan); done = sym (put-same at 0 old (omega (arith, P .room))) }
 
   module _ {trits : List ℕ} {q : ℕ} {c : Counts} {image new : List ℕ} (S : Sampled trits step fan width q c at old image)
       (put : new ≡ putAt image (at + 2 * width * q) (bytes width (c .zeros ∷ c .ones ∷ []))) where
@@ -153,21 +171,14 @@ module _ {step fan width L at : ℕ} {old : List ℕ} (P : Plan step fan width L
     more =
         let f : ℕ → ℕ = lastMultiple (step * fan) in
         let seam : at + 2 * width * q ≡ at + length (bytes width (pairsTo step f trits q)) = rw (length-bytes, length-pairsTo, mul-comm 2 width, mul-assoc) in
-        rw (pairsTo-more step f trits q, pair-is (S .counting) (P .steps), bytes-append) (put-more at _ old _ _ (omega (arith, P .room)) seam (S .done) put)
+        rw (pairsTo-more step f trits q, pair-is (S .counting) (own .steps), bytes-append) (put-more at _ old _ _ (omega (arith, P .room)) seam (S .done) put)
 
     -- a whole step follows
     pub sampled-step : {a e : ℕ} → TritsAt trits old a e at → length trits ≡ L → q < L / step → Step trits (take (e - a) (drop a new)) (step / 5) fan q c
-    sampled-step T n h =
-        let m : ℕ = step / 5 in
-        let s : 5 * (m * q + m) ≡ step * q + step = rw (mul-add 5, ← mul-assoc, P .trytewise) in
-        record {
-          trits-in = trits-stay _ T (omega (arith, P .room)) more;
-          counting = rw (P .trytewise) (S .counting);
-          inside = omega (arith, mul-le-mul-left step h, mul-suc step q, mul-div-le L step);
-        }
+    sampled-step T n h = step-follows own (trits-stay _ T (omega (arith, P .room)) more) (S .counting) n h
 
     pub sampled-next : {d : Counts} → Counting trits (5 * (step / 5)) fan (q + 1) d → Sampled trits step fan width (q + 1) d at old new
-    sampled-next C = record { counting = rw (P .trytewise) at C; done = more }
+    sampled-next C = record { counting = rw (own .trytewise) at C; done = more }
 
     pub sampled-all : length trits ≡ L → q ≡ L / step → new ≡ putAt old at (bytes width (pairs step (lastMultiple (step * fan)) trits))
     unfolding pairs pairsTo
@@ -185,3 +196,7 @@ far-pairs trits h =
     let e : f (65725 * q) ≡ 0 = omega arith in
     subst (λ (k : ℕ). getD (pairs 65725 f trits) k 0 ≡ getD (pairs 65725 (λ p. 0) trits) k 0) (div-add-mod i 2)
     (pairs-at 65725 f trits q (i % 2) lq lt ∙ rw e (sym (pairs-at 65725 (λ p. 0) trits q (i % 2) lq lt))))
+
+pub far-section : (trits H : List ℕ) → length trits ≤ 125536 → sampleSection 65725 2 4 trits ≡ section6 trits H
+unfolding sampleSection section6
+far-section trits H few = λ i. record { entries = length trits / 65725 + 1; contents = bytes 4 (far-pairs trits few i) }

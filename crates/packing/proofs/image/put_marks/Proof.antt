@@ -3,6 +3,7 @@ use native.Mathlib.Omega.{arith}
 use borrow.Author.Needs.{needs}
 use lib.ListN.{length}
 use Rattle.format.specs.Image.{section3, section4, section9}
+use Rattle.format.proofs.Sums.{shadows-few}
 use Rattle.packing.proofs.ImageLaws.{Within, few-nodes, sized, offsets, within, marks-put}
 use Rattle.packing.proofs.image.put_marks.Statement.{statement}
 use Rattle.packing.proofs.image.put_marks.Tie as tie
@@ -34,7 +35,7 @@ put-starts-requires : tie.Need-put-starts-requires
 put-starts-requires c κs =
     let p = count4 (c .before .before .before) .pre in
     let d = p .2 in
-    (p .0, p .1, p .3, omega (arith, d .few), omega (arith, within d, offsets d .at5-is, sized d .size-of 3, sized d .marked-are))
+    (p .0, p .1, p .3, omega (arith, shadows-few (d .proper)), omega (arith, within d, offsets d .at5-is, sized d .size-of 3, sized d .marked-are))
 
 put-mark-samples-requires : tie.Need-put-mark-samples-requires
 put-mark-samples-requires c κs =

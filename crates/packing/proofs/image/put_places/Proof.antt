@@ -3,6 +3,7 @@ use native.Mathlib.Omega.{arith}
 use mathlib.Core.Path.{sym, _∙_}
 use borrow.Author.Needs.{needs}
 use Rattle.format.specs.Image.{section5}
+use Rattle.format.proofs.Sums.{shadows-few}
 use Rattle.packing.proofs.ImageLaws.{sized, offsets, within, places-ready, put-section}
 use Rattle.packing.proofs.image.put_places.Statement.{statement}
 use Rattle.packing.proofs.image.put_places.Tie as tie
@@ -37,7 +38,7 @@ returns c =
 pub put-places-spec : {M : Type 1} → statement M
 put-places-spec =
     tie.close (tie.spec
-    (λ c κs. let p = c .before .before .before .pre in (p .0, p .1, p .3, omega (arith, p .2 .laid .few)))
+    (λ c κs. let p = c .before .before .before .pre in (p .0, p .1, p .3, omega (arith, shadows-few (p .2 .laid .proper))))
     (λ c. omega (arith, within (start (c .before .before .before) .pre .2 .laid)))
     (λ c. omega (arith, within (start (c .before .before .before .before) .pre .2 .laid)))
     (λ c κs. omega (arith, within (start (c .before .before .before .before) .pre .2 .laid)))

@@ -14,9 +14,10 @@ use Rattle.format.specs.Answers.{checkedNumber}
 use Rattle.format.specs.declared.Refusal.the-variants.{IndexWrong}
 use Rattle.format.proofs.Laws.{same-eq}
 use Rattle.format.proofs.CheckLaws.{limits-nodes}
+use Rattle.format.proofs.Sums.{shadows-few}
 use Rattle.proper.specs.Known.{Known, Marked}
 use Rattle.proper.specs.Examined.{opens, Sized, Through, givenFrom}
-use Rattle.proper.proofs.OpenLaws.{opens-room, given-refused, given-right, first-refused, first-passed}
+use Rattle.proper.proofs.OpenLaws.{opens-room, given-right, first-refused, first-passed, open-refused}
 use Rattle.proper.proofs.GivenLaws.{front3, marked-few, laying-is}
 use Rattle.proper.proofs.check.from3.Statement.{statement}
 use Rattle.proper.proofs.check.from3.Tie as tie
@@ -35,13 +36,7 @@ start3 r = start (r .before .before .before .before)
 
 returns : tie.Need-returns
 unfolding given
-returns c =
-    let opened = c .before .before .before in
-    let b = start opened .args .rest .now in
-    let f = c .before .f .given .0 .0 in
-    λ trits H K S.
-    sym (first-refused (section3 trits H) (givenFrom 1 trits H) b f
-    (given-refused (front3 trits H (S .nodes-are)) b f (sym (ap checkedNumber (c .before .f .given .1)) ∙ opened .opened .ensures)))
+returns c = λ trits H K S. sym (open-refused (front3 trits H (S .nodes-are)) (givenFrom 1 trits H) _ (c .before .f .given .1) (c .before .before .before .opened .ensures))
 
 -- the front is open
 front : (c : tie.After-enum-told) → let x = start (c .before .before) .args in 0 ≡ opens 25 (x .n) (8 * up (x .n) 64) (x .rest .now)
@@ -83,7 +78,7 @@ lay-out-requires c κs =
     let P = p .2 .shadowed .proper in (
       omega (arith, p .3 .trits-are, P .length-high),
       few s,
-      omega (arith, p .3 .twos-are, P .paired, p .2 .shadowed .few),
+      omega (arith, p .3 .twos-are, P .paired, shadows-few P),
       omega (arith, h, marked-few (p .0) (p .1), few s, p .3 .nodes-are),
     )
 

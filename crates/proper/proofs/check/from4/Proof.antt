@@ -8,7 +8,7 @@ use Rattle.format.specs.Image.{given, section4}
 use Rattle.format.specs.Answers.{checkedNumber}
 use Rattle.format.proofs.CheckLaws.{limits-nodes}
 use Rattle.proper.specs.Examined.{opens, givenFrom}
-use Rattle.proper.proofs.OpenLaws.{opens-room, given-refused, first-refused, first-open}
+use Rattle.proper.proofs.OpenLaws.{opens-room, first-open, open-refused}
 use Rattle.proper.proofs.GivenLaws.{front4, counted, counted-marked, marked-few}
 use Rattle.proper.proofs.check.from4.Statement.{statement}
 use Rattle.proper.proofs.check.from4.Tie as tie
@@ -23,13 +23,7 @@ start o = o .before .before .before .before .before .before
 
 returns : tie.Need-returns
 unfolding given
-returns c =
-    let opened = c .before .before .before in
-    let b = start opened .args .rest .now in
-    let f = c .before .f .given .0 .0 in
-    λ trits H T.
-    first-refused (section4 trits H) (givenFrom 2 trits H) b f
-    (given-refused (front4 trits H (counted-marked (counted T))) b f (sym (ap checkedNumber (c .before .f .given .1)) ∙ opened .opened .ensures))
+returns c = λ trits H T. open-refused (front4 trits H (counted-marked (counted T))) (givenFrom 2 trits H) _ (c .before .f .given .1) (c .before .before .before .opened .ensures)
 
 -- the front is open
 front : (c : tie.After-enum-told) → let x = start (c .before .before) .args in let n = x .lay .marked + 1 in 0 ≡ opens 25 n (4 * n) (x .rest .now)

@@ -10,15 +10,16 @@ use Rattle.format.specs.Lists.{same}
 use Rattle.format.specs.Image.{bytes, starts, given, section5}
 use Rattle.format.specs.Proper.{restOf, checkGiven}
 use Rattle.format.specs.Answers.{checkedNumber}
+use Rattle.format.proofs.Sums.{shadows-few}
 use Rattle.proper.specs.Examined.{opens, Through, givenFrom}
-use Rattle.proper.proofs.OpenLaws.{opens-room, given-refused, first-refused, both-open}
+use Rattle.proper.proofs.OpenLaws.{opens-room, both-open, open-refused}
 use Rattle.proper.proofs.GivenLaws.{front5, counted, counted-trits, counted-nodes, counted-shadows, counted-marked}
 use Rattle.proper.proofs.check.from5.Statement.{statement}
 use Rattle.proper.proofs.check.from5.Tie as tie
 
 -- the number of shadows
 few : (c : tie.Start) → c .args .lay .shadows ≤ 65535
-few c = let T = c .pre .1 .2 in omega (arith, counted-shadows (counted T), T .known .shadowed .few)
+few c = let T = c .pre .1 .2 in omega (arith, counted-shadows (counted T), shadows-few (T .known .shadowed .proper))
 
 -- the call
 abbrev start : tie.After-opened → tie.Start
@@ -36,11 +37,10 @@ unfolding given
 returns c =
     let opened = c .before .before .before .before in
     let x = start opened .args in
-    let f = c .before .before .f .given .0 .0 in
     λ trits H T.
     c .before5 .ensures trits H (T .known .shadowed) (sym (counted-nodes (counted T)))
-    ∙ ap (λ (k : ℕ). fault 25 (same (x .firsts .now) (bytes 4 (starts trits H))) then k) (first-refused (section5 trits H) (givenFrom 3 trits H) (x .rest .now) f
-    (given-refused (front5 trits H (T .marked .proper) (counted-shadows (counted T))) (x .rest .now) f (sym (ap checkedNumber (c .before .before .f .given .1)) ∙ opened .opened .ensures)))
+    ∙ ap (λ (k : ℕ). fault 25 (same (x .firsts .now) (bytes 4 (starts trits H))) then k)
+    (open-refused (front5 trits H (T .marked .proper) (counted-shadows (counted T))) (givenFrom 3 trits H) (x .rest .now) (c .before .before .f .given .1) (opened .opened .ensures))
 
 -- the front is open
 front : (c : tie.After-enum-told) → let x = start (c .before .before) .args in 0 ≡ opens 25 (x .lay .shadows) (4 * x .lay .shadows) (x .rest .now)
@@ -56,7 +56,7 @@ both-right-requires c κs =
     let t = p .1 in
     let C = counted (t .2) in
     let marked = p .0 ∙ ap (λ (k : ℕ). 4 * (k + 1)) (sym (counted-marked C)) in
-    (c .before .before .tryte-table .ensures, (t .0, t .1, t .2 .known, counted-trits C, sym (counted-nodes C), marked, c .contents .ensures .1 ∙ ap (λ (k : ℕ). 4 * k) (sym (counted-shadows C))))
+    (c .before .before .tryte-table .ensures, (t .0, t .1, t .2 .known, counted-trits C, sym (counted-nodes C), record { long4 = marked; long5 = c .before .contents .ensures .1 ∙ ap (λ (k : ℕ). 4 * k) (sym (counted-shadows C)) }))
 
 -- what sections 4 and 5 give
 gives : (c : tie.After-both-right) → let told = c .before .before .before .before in let x = start (told .before .before) .args in (trits H : List ℕ)
@@ -69,8 +69,8 @@ gives c trits H T =
     let s = start (told .before .before) in
     let C = counted T in
     both-open (section5 trits H) (givenFrom 3 trits H) (s .args .rest .now) (front5 trits H (T .marked .proper) (counted-shadows C)) (front told)
-    (c .before .contents .ensures .0) (same (s .args .firsts .now) (bytes 4 (starts trits H))) (c .both-right .result)
-    (c .both-right .ensures trits H (T .known) (counted-trits C) (sym (counted-nodes C)) (s .pre .0 ∙ ap (λ (k : ℕ). 4 * (k + 1)) (sym (counted-marked C))))
+    (c .before .before .contents .ensures .0) (same (s .args .firsts .now) (bytes 4 (starts trits H))) (c .both-right .result)
+    (c .both-right .ensures trits H (T .known) (counted-trits C) (sym (counted-nodes C)))
 
 from6-requires : tie.Need-from6-requires
 from6-requires c κs =
@@ -91,6 +91,6 @@ from5-spec =
     tie.close (tie.spec
     (λ c. omega (arith, few (c .before .before .before .before .before)))
     (λ c κs. search needs) (λ c. search needs) before5-requires returns (λ c. search needs) (λ c κs. search needs)
-    (λ c κs. room (c .before .before)) both-right-requires
+    (λ c κs. room (c .before)) both-right-requires
     (λ c κs. room (c .before .before .before .before .before .before))
     from6-requires returns-2 returns-3)

@@ -1,7 +1,7 @@
 -- `check::plan_of` meets its contract. Assumes nothing.
 use native.Mathlib.Omega.{arith}
 use mathlib.Core.Path.{_≡_}
-use Rattle.proper.specs.Samples.{far, middle, near}
+use Rattle.samples.specs.Samples.{far, middle, near}
 use Rattle.proper.proofs.check.plan_of.Statement.{statement}
 use Rattle.proper.proofs.check.plan_of.Tie as tie
 

@@ -23,7 +23,7 @@ abbrev μ-loop : tie.MeasureT-loop
 -- the pair of this turn lies in the section
 room : (c : tie.At-loop Inv-loop μ-loop) → let x = c .before .before .before .args in
     Width (x .width) × (x .width * (2 * (c .loop .q + 1)) ≤ length (x .part .now))
-room c = let t = c .before .before .before .pre .1 in (t .3 .widths, pair-room (t .3) (t .2) (c .loop .inv .0))
+room c = let t = c .before .before .before .pre .1 in (t .3 .paced .widths, pair-room (t .3) (t .2) (c .loop .inv .0))
 
 returns : tie.Need-returns Inv-loop μ-loop
 returns c =
@@ -55,7 +55,7 @@ returns-2 c =
 pub samples-right-spec : {M : Type 1} → statement M
 samples-right-spec =
     tie.close (tie.spec Inv-loop μ-loop
-    (λ c. c .before .before .pre .1 .3 .steps)
+    (λ c. c .before .before .pre .1 .3 .paced .steps)
     (λ c. (omega arith, λ trits T n P. passed-none P))
     (λ c κs. room (c .before)) returns next-counts-requires
     (λ c. let x = c .before .before .before .before .before .before .before .args in omega (arith, div-le-self (x .l) (x .step)))

@@ -1,4 +1,4 @@
--- `check::level` meets its contract. Assumes nothing.
+-- `check::sample_section` meets its contract. Assumes nothing.
 use Prim.Native.Nat.{ℕ, _+_, _*_, _/_, _≤_, _<_}
 use native.Mathlib.Omega.{arith}
 use mathlib.Core.Path.{_≡_, sym, ap, _∙_}
@@ -13,22 +13,23 @@ use Rattle.format.specs.Answers.{checkedNumber}
 use Rattle.format.proofs.Tryte.{tryte-entry}
 use Rattle.samples.specs.Lent.{TritsIn}
 use Rattle.proper.specs.Examined.{opens}
-use Rattle.proper.specs.Samples.{levelOf, Planned}
+use Rattle.samples.specs.Samples.{sampleSection}
+use Rattle.proper.specs.Samples.{Planned}
 use Rattle.proper.proofs.OpenLaws.{opens-room, given-refused, given-right}
-use Rattle.proper.proofs.GivenLaws.{level-small, front-level}
+use Rattle.proper.proofs.GivenLaws.{sampling-small, front-samples}
 use Rattle.proper.proofs.PairLaws.{planned}
-use Rattle.proper.proofs.check.level.Statement.{statement}
-use Rattle.proper.proofs.check.level.Tie as tie
+use Rattle.proper.proofs.check.sample_section.Statement.{statement}
+use Rattle.proper.proofs.check.sample_section.Tie as tie
 
 small : (c : tie.Start) → let x = c .args in (0 < x .step) × (x .l / x .step ≤ 125536) × (x .width * (2 * (x .l / x .step + 1)) ≤ 1004296)
-small c = let p = c .pre in level-small (p .1 .1) (omega (arith, p .2 .1 .few, p .2 .2))
+small c = let p = c .pre in sampling-small (p .1 .1) (omega (arith, p .2 .1 .few, p .2 .2))
 
 returns : tie.Need-returns
 returns c =
     let opened = c .before .before .before in
     let x = opened .before .before .before .args in
     λ trits T e.
-    given-refused (front-level trits (x .step) (x .fan) (x .width) e) (x .rest .now) (c .before .f .given .0 .0)
+    given-refused (front-samples trits (x .step) (x .fan) (x .width) e) (x .rest .now) (c .before .f .given .0 .0)
     (sym (ap checkedNumber (c .before .f .given .1)) ∙ opened .opened .ensures)
 
 -- the front is open
@@ -49,16 +50,16 @@ samples-right-requires c κs =
     (λ x h. ap (λ (l : List ℕ). getD l x 0) (p .0) ∙ tryte-entry x h, (p .2 .0, p .2 .1, p .2 .2, plan c (p .2 .0) (p .2 .1) (p .2 .2)))
 
 gives : (c : tie.After-samples-right) → let x = c .before .before .before .before .before .before .before .args in (trits : List ℕ) → TritsIn trits (x .bs .now) → length trits ≡ x .l
-    → fault 25 (c .samples-right .result) ≡ givenFault (levelOf (x .step) (x .fan) (x .width) trits) (x .rest .now)
-unfolding levelOf
+    → fault 25 (c .samples-right .result) ≡ givenFault (sampleSection (x .step) (x .fan) (x .width) trits) (x .rest .now)
+unfolding sampleSection
 gives c trits T e =
     let x = c .before .before .before .before .before .before .before .args in
-    given-right (front-level trits (x .step) (x .fan) (x .width) e) (x .rest .now) (c .samples-right .result) (front (c .before .before))
+    given-right (front-samples trits (x .step) (x .fan) (x .width) e) (x .rest .now) (c .samples-right .result) (front (c .before .before))
     (c .samples-right .ensures trits T e (plan (c .before) trits T e)
     ∙ ap (λ (l : List ℕ). same l (bytes (x .width) (pairs (x .step) (lastMultiple (x .step * x .fan)) trits))) (c .before .contents .ensures .0))
 
-pub level-spec : {M : Type 1} → statement M
-level-spec =
+pub sample-section-spec : {M : Type 1} → statement M
+sample-section-spec =
     tie.close (tie.spec (λ c. small (c .before .before) .0)
     (λ c. omega (arith, small (c .before .before) .1))
     (λ c. omega (arith, small (c .before .before) .1))

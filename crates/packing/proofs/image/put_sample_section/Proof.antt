@@ -1,4 +1,4 @@
--- `image::put_level` meets its contract: the count of the section, and its contents from section 1. Assumes nothing.
+-- `image::put_sample_section` meets its contract: the count of the section, and its contents from section 1. Assumes nothing.
 use Prim.Native.Nat.{ℕ, _/_, _+_, _-_}
 use native.Mathlib.Nat.{div-le-self}
 use native.Mathlib.Omega.{arith}
@@ -6,10 +6,11 @@ use mathlib.Core.Path.{sym, ap}
 use mathlib.Core.List.{List}
 use borrow.Author.Needs.{needs}
 use Rattle.format.proofs.Sizes.{length-bytes, length-pairs}
-use Rattle.packing.specs.Packed.{Started, sampled}
+use Rattle.samples.specs.Samples.{sampleSection}
+use Rattle.packing.specs.Packed.{Started}
 use Rattle.packing.proofs.ImageLaws.{sized, within, stays, trits-at, plan-stays, put-section}
-use Rattle.packing.proofs.image.put_level.Statement.{statement}
-use Rattle.packing.proofs.image.put_level.Tie as tie
+use Rattle.packing.proofs.image.put_sample_section.Statement.{statement}
+use Rattle.packing.proofs.image.put_sample_section.Tie as tie
 
 -- the call
 abbrev start : tie.After-put4 → tie.Start
@@ -29,6 +30,7 @@ put-samples-requires c κs =
     (p .5, plan-stays (p .3) (count .put4 .kept .0), (p .0, trits-at s _ (omega (arith, p .4)), sym (sized (s .laid) .trits-are)))
 
 returns : tie.Need-returns
+unfolding sampleSection
 returns c =
     let put = c .before .before in
     let count = put .before .before .before .before in
@@ -38,12 +40,12 @@ returns c =
     let t = counted count trits H s in
     let n = sized (s .laid) .trits-are in
     let e = put .put-samples .ensures trits (trits-at t _ (omega (arith, p .4))) (sym n) in (
-      put-section (x .at) (x .lay .trits / x .step + 1) _ (sampled (x .step) (x .fan) (x .width) trits) (omega (arith, p .4, within (s .laid))) (rw (length-bytes, length-pairs, ← n) (p .3 .room)) (ap (λ (k : ℕ). k / x .step + 1) n) (count .put4 .ensures) e .is,
+      put-section (x .at) (x .lay .trits / x .step + 1) _ (sampleSection (x .step) (x .fan) (x .width) trits) (omega (arith, p .4, within (s .laid))) (rw (length-bytes, length-pairs, ← n) (p .3 .room)) (ap (λ (k : ℕ). k / x .step + 1) n) (count .put4 .ensures) e .is,
       stays t (x .at) _ (omega (arith, p .4)) (omega (arith, p .3 .room, count .put4 .kept .0)) (put .put-samples .kept .0) e,
     )
 
-pub put-level-spec : {M : Type 1} → statement M
-put-level-spec =
+pub put-sample-section-spec : {M : Type 1} → statement M
+put-sample-section-spec =
     tie.close (tie.spec
     (λ c. omega (arith, within (c .before .before .pre .2 .laid)))
     (λ c. omega (arith, within (c .before .before .before .pre .2 .laid)))
