@@ -1,7 +1,7 @@
 //! The proved program `list` beside the independent side: the same text, byte
 //! for byte, for sound tables, damaged ones, and inputs that are no table.
 
-use glouds::make::{self, Xorshift};
+use glouds::make::{self, bytes, Xorshift};
 use glouds::plain;
 use std::collections::BTreeMap;
 use std::io::Write;
@@ -37,10 +37,6 @@ fn list(input: &[u8], piece: usize) -> Vec<u8> {
     assert!(output.status.success());
     assert!(output.stderr.is_empty());
     output.stdout
-}
-
-fn bytes(table: &[u16]) -> Vec<u8> {
-    table.iter().flat_map(|word| word.to_le_bytes()).collect()
 }
 
 /// One input on both sides; gives the text's first word or its refusal.
