@@ -1,4 +1,4 @@
-//! Bytes set to anything, cut off or added, and all kinds of damage at once.
+//! Bytes set to anything, cut off or added.
 
 use crate::made::Made;
 use crate::run::Cases;
@@ -63,21 +63,5 @@ impl Cases {
             };
             self.part(&bytes, cut);
         }
-    }
-
-    /// All kinds of damage.
-    pub fn damages(&mut self, image: &Made, times: usize) {
-        self.few_cuts(image);
-        self.more(image);
-        self.counts(image);
-        self.shadows(image);
-        self.numbers(image);
-        self.orders(image);
-        self.made_up_ranks(image);
-        self.two_faults(image);
-        self.rules(image);
-        self.changed_trits(image, times);
-        self.mixtures(image, times);
-        self.random_damage(image, times);
     }
 }

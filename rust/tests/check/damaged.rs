@@ -6,6 +6,24 @@ use crate::run::Cases;
 use glouds::make::{self, Xorshift};
 use glouds::plain::{self, Graph};
 
+impl Cases {
+    /// All kinds of damage.
+    fn damages(&mut self, image: &Made, times: usize) {
+        self.few_cuts(image);
+        self.more(image);
+        self.counts(image);
+        self.shadows(image);
+        self.numbers(image);
+        self.orders(image);
+        self.made_up_ranks(image);
+        self.two_faults(image);
+        self.rules(image);
+        self.changed_trits(image, times);
+        self.mixtures(image, times);
+        self.random_damage(image, times);
+    }
+}
+
 /// Small images: every byte, every cut and all other damage.
 pub fn small(cases: &mut Cases) {
     let rng = &mut Xorshift::new(41);
