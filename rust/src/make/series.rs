@@ -42,7 +42,7 @@ pub fn lengths() -> impl Iterator<Item = usize> {
 /// A random graph for each of many rounds: few roots to all roots, few edges to
 /// many, and now and then some hundreds of nodes.
 pub fn of_round(round: usize, rng: &mut Xorshift) -> Graph {
-    let most = if round % 50 == 0 { 700 } else { 30 };
+    let most = if round.is_multiple_of(50) { 700 } else { 30 };
     let n = 1 + rng.below(most);
     let c = match round % 3 {
         0 => 1,

@@ -2,7 +2,7 @@
 
 use crate::numberings::same;
 use crate::run::{need, Cases, Room};
-use crate::written::written_tables;
+use crate::tables::written_tables;
 use glouds::make::{self, Xorshift};
 use glouds::plain;
 

@@ -4,7 +4,7 @@ mod damaged;
 mod large;
 mod numberings;
 mod run;
-mod written;
+mod tables;
 
 use glouds::plain;
 use run::Cases;
@@ -29,13 +29,13 @@ fn empty_slices() {
 #[test]
 fn beside_the_plain_packer() {
     let mut cases = Cases::new(29);
-    for table in written::written_tables() {
+    for table in tables::written_tables() {
         let _ = cases.enough(&table);
     }
-    written::every_short_run(&mut cases);
+    tables::every_short_run(&mut cases);
     numberings::every_small_graph(&mut cases);
     numberings::random_graphs(&mut cases);
-    written::lengths(&mut cases);
+    tables::lengths(&mut cases);
     large::limits(&mut cases);
     damaged::damaged(&mut cases);
     large::large(&mut cases);
