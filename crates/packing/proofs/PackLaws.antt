@@ -27,6 +27,7 @@ use Rattle.samples.specs.Places.{groupEnds}
 use Rattle.samples.proofs.PlaceLaws.{length-ends}
 use Rattle.trits.specs.declared.Layout.{Layout}
 use Rattle.trits.specs.Layout.{layout}
+use Rattle.packing.specs.declared.table.Sizes.{Sizes}
 use Rattle.packing.specs.Sizes.{sizesOf}
 use Rattle.packing.specs.Work.{graphOr, graphOf, Sized, startOf, Kept, WorkAt}
 use Rattle.packing.specs.Stream.{Walked}
@@ -45,15 +46,15 @@ refused t f e = go (readTable t) e
     go (graph g) e = absurd (let z : _≡_ {A = ℕ} 0 1 = cc in omega arith)
 
 -- a table whose sizes were read
-pub scanned : {t : List ℕ} {n m c : ℕ} → inl (n, m, c) ≡ sizesOf (readTable t) → Measured t n m c
+pub scanned : {t : List ℕ} {z : Sizes} → inl (z .nodes, z .edges, z .roots) ≡ sizesOf (readTable t) → Measured t z
 unfolding graphOf
-scanned {t} {n} {m} {c} e = go (readTable t) refl e
+scanned {t} {z} e = go (readTable t) refl e
   where
-    go : (r : Read) → readTable t ≡ r → inl (n, m, c) ≡ sizesOf r → Measured t n m c
+    go : (r : Read) → readTable t ≡ r → inl (z .nodes, z .edges, z .roots) ≡ sizesOf r → Measured t z
     go (faulty f) q e = absurd (let z : _≡_ {A = ℕ} 0 1 = cc in omega arith)
     go (graph g) q e =
         let is : graphOr (readTable t) ≡ g = ap graphOr q in
-        let p : _≡_ {A = ℕ × ℕ × ℕ} (n, m, c) (nodes g, edges g, length (g .roots)) = cc in
+        let p : _≡_ {A = ℕ × ℕ × ℕ} (z .nodes, z .edges, z .roots) (nodes g, edges g, length (g .roots)) = cc in
         record { sized = record { read = q ∙ ap graph (sym is); many = rw is (λ i. sym p i .0) }; edges-are = rw is (λ i. p i .1); roots-are = rw is (λ i. p i .2) }
 
 -- the count of roots stands after n, n counts and m operands
@@ -71,15 +72,15 @@ cleared-same b l l′ e k =
 
 -- ---- what packing leaves: first with work as the walk or `put_image` left it, then with work cleared
 
-module _ {t : List ℕ} {n m c : ℕ} (s : Measured t n m c) where
-  pub outcome-7 : (order work image : List ℕ) → (length work < 3 * n) ⊎ (length order < n) → packOutcome t order work image ≡ packLeaves (Refused WorkTooShort) order work image
+module _ {t : List ℕ} {z : Sizes} (s : Measured t z) where
+  pub outcome-7 : (order work image : List ℕ) → (length work < 3 * z .nodes) ⊎ (length order < z .nodes) → packOutcome t order work image ≡ packLeaves (Refused WorkTooShort) order work image
   outcome-7 order work image h = pack-7 t order work image (graphOf t) (s .sized .read) (rw (s .sized .many) h)
 
-  clears : (old work : List ℕ) → length work ≡ length old → Kept 0 (3 * n) old work → cleared (graphOf t) old ≡ over (replicate (3 * n) 0) work
-  clears old work e k = rw (s .sized .many) (sym (cleared-same (3 * n) old work e k))
+  clears : (old work : List ℕ) → length work ≡ length old → Kept 0 (3 * z .nodes) old work → cleared (graphOf t) old ≡ over (replicate (3 * z .nodes) 0) work
+  clears old work e k = rw (s .sized .many) (sym (cleared-same (3 * z .nodes) old work e k))
 
-  pub uncleared-8 : {tail : ℕ} {order work image : List ℕ} → WorkAt t n (walk (graphOf t)) tail work → tail < n → n ≤ length order
-      → Uncleared t n order work image (Refused NodeUnreached) order work image
+  pub uncleared-8 : {tail : ℕ} {order work image : List ℕ} → WorkAt t (z .nodes) (walk (graphOf t)) tail work → tail < z .nodes → z .nodes ≤ length order
+      → Uncleared t (z .nodes) order work image (Refused NodeUnreached) order work image
   unfolding reached levelOrder
   uncleared-8 {order = order} {work = work} {image = image} w l o = record {
     outcome = λ old e k.
@@ -109,11 +110,20 @@ pub record Totals (t : List ℕ) (n m c : ℕ) : Type 0 where
   pub ones : nodeCount (walk (graphOf t) .trits) ≡ n
   pub marked-few : length (markedNodes (walk (graphOf t) .trits) (walk (graphOf t) .shadows)) ≤ n
 
-module _ {t order work : List ℕ} {n m c : ℕ} (o : Ordered t order work n m c) where
+module _ {t order work : List ℕ} {z : Sizes} (o : Ordered t order work z) where
+  abbrev n : ℕ
+  n = z .nodes
+
+  abbrev m : ℕ
+  m = z .edges
+
+  abbrev c : ℕ
+  c = z .roots
+
   abbrev g : Graph
   g = graphOf t
 
-  abbrev s : Measured t n m c
+  abbrev s : Measured t z
   s = o .measured
 
   packs : Packable g

@@ -11,6 +11,7 @@ use Rattle.format.specs.Packing.{imageOf, packOutcome, packLeaves}
 use Rattle.format.specs.declared.Packed.{Packed}
 use Rattle.trits.specs.declared.Layout.{Layout}
 use Rattle.trits.specs.Layout.{layout}
+use Rattle.packing.specs.declared.table.Sizes.{Sizes}
 use Rattle.packing.specs.Work.{graphOf, Sized, Kept}
 use Rattle.packing.specs.Stream.{Walked}
 use Rattle.format.specs.Proper.{ProperTrits}
@@ -41,23 +42,23 @@ pub record Started (trits H : List ℕ) (lay : Layout) (buffer : List ℕ) : Typ
   pub laid : LaidOut trits H lay buffer
   pub stands : take (length (front trits H)) buffer ≡ front trits H
 
--- a table that is read, of n nodes, m edges and c roots
-pub record Measured (table : List ℕ) (n m c : ℕ) : Type 0 where
-  pub sized : Sized table n
-  pub edges-are : m ≡ edges (graphOf table)
-  pub roots-are : c ≡ length (graphOf table .roots)
+-- a table that is read, with its sizes
+pub record Measured (table : List ℕ) (s : Sizes) : Type 0 where
+  pub sized : Sized table (s .nodes)
+  pub edges-are : s .edges ≡ edges (graphOf table)
+  pub roots-are : s .roots ≡ length (graphOf table .roots)
 
 -- and the buffers of the walk and of the order list have room
-pub record Lent (table order work : List ℕ) (n m c : ℕ) : Type 0 where
-  pub measured : Measured table n m c
-  pub order-room : n ≤ length order
-  pub work-room : 3 * n ≤ length work
+pub record Lent (table order work : List ℕ) (s : Sizes) : Type 0 where
+  pub measured : Measured table s
+  pub order-room : s .nodes ≤ length order
+  pub work-room : 3 * s .nodes ≤ length work
 
 -- the walk is in its buffer
-pub record Ordered (table order work : List ℕ) (n m c : ℕ) : Type 0 where
-  pub measured : Measured table n m c
-  pub order-room : n ≤ length order
-  pub walked : Walked table n work
+pub record Ordered (table order work : List ℕ) (s : Sizes) : Type 0 where
+  pub measured : Measured table s
+  pub order-room : s .nodes ≤ length order
+  pub walked : Walked table (s .nodes) work
 
 -- whatever work was before the walk, packing answers r and leaves order′, image′, and work′ with its first 3n words cleared
 pub record Uncleared (table : List ℕ) (n : ℕ) (order work image : List ℕ) (r : Packed) (order′ work′ image′ : List ℕ) : Type 0 where

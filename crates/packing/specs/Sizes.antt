@@ -10,7 +10,7 @@ use Rattle.format.specs.Answers.{refusalNumber}
 use Rattle.packing.specs.declared.table.Step.{Step}
 use Rattle.packing.specs.declared.table.Step.the-variants.{At, Bad}
 use Rattle.packing.specs.declared.table.Scanned.{Scanned}
-use Rattle.packing.specs.declared.table.Scanned.the-variants.{Sizes, Fault}
+use Rattle.packing.specs.declared.table.Scanned.the-variants.{Sound, Fault}
 
 -- a place, or the number of a fault
 abbrev pub placeOf : Step → ℕ ⊎ ℕ
@@ -24,7 +24,7 @@ stepOf table (got x ws) = inl (length table - length ws)
 
 -- n, m and c, or the number of a fault
 abbrev pub sizes : Scanned → (ℕ × ℕ × ℕ) ⊎ ℕ
-sizes (Sizes n m c) = inl (n, m, c)
+sizes (Sound s) = inl (s .nodes, s .edges, s .roots)
 sizes (Fault r) = inr (refusalNumber r)
 
 abbrev pub sizesOf : Read → (ℕ × ℕ × ℕ) ⊎ ℕ

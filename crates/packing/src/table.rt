@@ -15,13 +15,16 @@ pub enum Step {
     Bad(format::Refusal),
 }
 
+// The sizes of a table: n, m and c.
+pub struct Sizes {
+    pub nodes: usize,
+    pub edges: usize,
+    pub roots: usize,
+}
+
 // The sizes of a table, or its fault.
 pub enum Scanned {
-    Sizes {
-        nodes: usize,
-        edges: usize,
-        roots: usize,
-    },
+    Sound(Sizes),
     Fault(format::Refusal),
 }
 
@@ -145,11 +148,11 @@ fn ending(table: &[u16], n: usize, at: usize) -> Scanned
             if p < table.len() {
                 return Scanned::Fault(format::Refusal::WordsAfterRoots);
             }
-            Scanned::Sizes {
+            Scanned::Sound(Sizes {
                 nodes: n,
                 edges: at - n - 1,
                 roots: p - at - 1,
-            }
+            })
         }
     }
 }

@@ -15,8 +15,8 @@ use Rattle.packing.proofs.pack.pack.Tie as tie
 abbrev start : tie.After-scan → tie.Start
 start c = c .before .before .before .before .before
 
-measured : (c : tie.After-nodes) → Measured (start (c .before .before) .args .table .now) (c .nodes .given .0 .0) (c .nodes .given .0 .1 .0) (c .nodes .given .0 .1 .1 .0)
-measured c = scanned (sym (ap sizes (c .nodes .given .1)) ∙ c .before .before .scan .ensures)
+measured : (c : tie.After-s) → Measured (start (c .before .before) .args .table .now) (c .s .given .0 .0)
+measured c = scanned (sym (ap sizes (c .s .given .1)) ∙ c .before .before .scan .ensures)
 
 mul-if1 : tie.Need-mul-if1
 mul-if1 c = let s = measured (c .before) in omega (arith, limits (s .sized) .nodes-fit, s .sized .many)

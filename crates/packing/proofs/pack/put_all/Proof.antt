@@ -10,13 +10,13 @@ use Rattle.packing.proofs.pack.put_all.Tie as tie
 
 -- the call
 abbrev start : tie.After-count-marked → tie.Start
-start c = c .before .before .before .before .before .before
+start c = c .before .before .before .before .before .before .before
 
 laid : (c : tie.After-lay-out) → c .lay-out .result ≡ layoutOf (graphOf (start (c .before) .args .table .now))
 laid c = let o = start (c .before) .pre in laid-out o (c .lay-out .ensures) (c .before .count-marked .ensures _ (o .walked .held))
 
 add-uses : tie.Need-add-uses
-add-uses c = let t = totals (start c .pre) in omega arith
+add-uses c = let t = totals (c .before .before .before .before .before .pre) in omega arith
 
 add-total : tie.Need-add-total
 add-total c = let t = totals (start c .pre) in omega arith
@@ -54,6 +54,6 @@ returns-2 c =
 
 pub put-all-spec : {M : Type 1} → statement M
 put-all-spec =
-    tie.close (tie.spec (λ c κs. search needs) add-uses add-total add-total-2 sub-shadows lay-out-requires (λ c. search needs)
+    tie.close (tie.spec add-uses (λ c κs. search needs) add-total add-total-2 sub-shadows lay-out-requires (λ c. search needs)
     (λ c. search needs) add-size-2 (λ c. search needs) returns (λ c κs. search needs) put-image-requires (λ c. search needs)
     (λ c. search needs) (λ c. search needs) returns-2)
