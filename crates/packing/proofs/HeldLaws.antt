@@ -1,5 +1,5 @@
 -- One operand seen: the buffer holds the walk before, and after. Assumes nothing.
-use mathlib.Core.Path.{_≡_, refl, sym, ap, _∙_, subst}
+use mathlib.Core.Path.{_≡_, refl, sym, ap, _∙_}
 use mathlib.Core.List.{List, [], _∷_, _++_}
 use Prim.Native.Nat.{ℕ, zero, suc, _+_, _-_, _*_, _%_, _≤_, _<_}
 use native.Mathlib.Decide.{ℕ-discrete}
@@ -15,9 +15,9 @@ use Rattle.format.specs.Image.{marked}
 use Rattle.format.specs.Level.{Walk, enter, see, seeAll, close}
 use Rattle.format.proofs.Laws.{run-snoc, length-consIf, keep-append, count-append, count-le}
 use Rattle.format.proofs.Places.{all-append, all-imp, all-at, number-new, getD-number, number-getD, number-le, nodup-snoc}
-use Rattle.format.proofs.Walks.{Inv, see-at, inv-see, inv-close}
+use Rattle.format.proofs.Walks.{see-at}
 use Rattle.format.proofs.Order.{fits-length}
-use Rattle.packing.specs.Work.{seenWord, Held, Holding, Saw}
+use Rattle.packing.specs.Work.{seenWord, Sound, Held, Holding, Saw}
 use Rattle.format.proofs.Over.{Over, over-length, over-behind}
 use Rattle.packing.proofs.NumberLaws.{number-other}
 
@@ -57,6 +57,33 @@ unfolding seenWord
 seen-mod zero H b = refl
 seen-mod (suc k) H b = omega arith
 
+-- ---- the walk
+
+module _ {n : ℕ} {w : Walk} (s : Sound n w) where
+  sound-new : {v : ℕ} → Node n v → numberIn v (w .queue) ≡ 0 → Sound n (enter 0 v w)
+  sound-new {v} hv e = record {
+    nodup = nodup-snoc (w .queue) v (s .nodup) e;
+    inside = all-append (Node n) (w .queue) (v ∷ []) (s .inside) (hv, tt);
+    ones = omega (arith, s .ones, count-append 1 (w .trits) (1 ∷ []), length-append (w .queue) (v ∷ []));
+    twos = omega (arith, s .twos, count-append 2 (w .trits) (1 ∷ []));
+  }
+
+  sound-old : (v k : ℕ) → Sound n (enter (suc k) v w)
+  sound-old v k = record {
+    nodup = s .nodup;
+    inside = s .inside;
+    ones = omega (arith, s .ones, count-append 1 (w .trits) (2 ∷ []));
+    twos = omega (arith, s .twos, count-append 2 (w .trits) (2 ∷ []), length-append (w .shadows) (suc k ∷ []));
+  }
+
+  sound-close : Sound n (close w)
+  sound-close = record {
+    nodup = s .nodup;
+    inside = s .inside;
+    ones = omega (arith, s .ones, count-append 1 (w .trits) (0 ∷ []));
+    twos = omega (arith, s .twos, count-append 2 (w .trits) (0 ∷ []));
+  }
+
 -- ---- one operand
 
 module _ {n : ℕ} {w : Walk} {tail : ℕ} {work : List ℕ} (h : Held n w tail work) (v : ℕ) (hv : Node n v) where
@@ -67,14 +94,11 @@ module _ {n : ℕ} {w : Walk} {tail : ℕ} {work : List ℕ} (h : Held n w tail 
   pub has-room : getD work (n + v - 1) 0 ≡ 0 → tail < n
   has-room e =
       let q : List ℕ = w .queue ++ v ∷ [] in
-      let f : length q ≤ n = fits-length n q (nodup-snoc (w .queue) v (h .inv .nodup) (unseen e)) (all-append (Node n) (w .queue) (v ∷ []) (h .inv .inside) (hv, tt)) in
+      let f : length q ≤ n = fits-length n q (nodup-snoc (w .queue) v (h .sound .nodup) (unseen e)) (all-append (Node n) (w .queue) (v ∷ []) (h .sound .inside) (hv, tt)) in
       omega (arith, h .tail-is, length-append (w .queue) (v ∷ []))
 
   pub seen-small : length (w .shadows) < 65535 → getD work (n + v - 1) 0 + 65536 < 4294967296
   seen-small b = rw (h .seen v hv) (seen-fits (numberIn v (w .queue)) (w .shadows) (omega (arith, number-le v (w .queue), h .tail-is)) b)
-
-  inv-next : (p : ℕ) → numberIn v (w .queue) ≡ p → Inv n (enter p v w) (h .line ++ v ∷ [])
-  inv-next p e = subst (λ (x : Walk). Inv n x (h .line ++ v ∷ [])) (see-at v w p e) (inv-see n v w (h .line) hv (h .inv))
 
   see-new : getD work (n + v - 1) 0 ≡ 0 → Held n (see v w) (tail + 1) (set (set work (2 * n + tail) v) (n + v - 1) (tail + 1))
   see-new e =
@@ -86,8 +110,7 @@ module _ {n : ℕ} {w : Walk} {tail : ℕ} {work : List ℕ} (h : Held n w tail 
         small = h .small;
         tail-is = omega (arith, h .tail-is, length-append (w .queue) (v ∷ []));
         fits = omega arith;
-        line = h .line ++ v ∷ [];
-        inv = inv-next 0 new;
+        sound = sound-new (h .sound) hv new;
         below = all-imp (λ x. x ≤ length (w .queue)) (λ x. x ≤ length (w .queue ++ v ∷ [])) (w .shadows) (λ x b. omega (arith, length-append (w .queue) (v ∷ []))) (h .below);
         seen = λ u hu. elim (ℕ-discrete u v) [
           | yes same ↦ rw (same, getD-set-same work₁ (n + v - 1) (tail + 1) 0 (simp length-set (omega (arith, h .room, hv))), number-new v (w .queue) [] new, h .tail-is)
@@ -112,8 +135,7 @@ module _ {n : ℕ} {w : Walk} {tail : ℕ} {work : List ℕ} (h : Held n w tail 
     small = h .small;
     tail-is = h .tail-is;
     fits = h .fits;
-    line = h .line ++ v ∷ [];
-    inv = inv-next (suc k) e;
+    sound = sound-old (h .sound) v k;
     below = all-append (λ x. x ≤ length (w .queue)) (w .shadows) (suc k ∷ []) (h .below) (omega (arith, number-le v (w .queue)), tt);
     seen = λ u hu. elim (ℕ-discrete u v) [
       | yes same ↦ rw (same, getD-set-same work (n + v - 1) (getD work (n + v - 1) 0 + 65536) 0 (omega (arith, h .room, hv)), h .seen v hv, e) (seen-more k (w .shadows))
@@ -155,8 +177,7 @@ module _ {n : ℕ} {w : Walk} {tail : ℕ} {work : List ℕ} (h : Held n w tail 
     small = h .small;
     tail-is = h .tail-is;
     fits = h .fits;
-    line = h .line ++ 0 ∷ [];
-    inv = inv-close n w (h .line) (h .inv);
+    sound = sound-close (h .sound);
     below = h .below;
     seen = h .seen;
     order = h .order;
@@ -170,8 +191,7 @@ module _ {n : ℕ} {w : Walk} {tail : ℕ} {work : List ℕ} (h : Held n w tail 
     small = h .small;
     tail-is = h .tail-is;
     fits = h .fits;
-    line = h .line;
-    inv = h .inv;
+    sound = h .sound;
     below = h .below;
     seen = λ v hv. over-behind o (n + v - 1) (omega (arith, hv, o .upto)) ∙ h .seen v hv;
     order = λ j b′. over-behind o (2 * n + j) (omega (arith, o .upto)) ∙ h .order j b′;
@@ -184,14 +204,14 @@ module _ {n : ℕ} {w : Walk} {tail : ℕ} {work : List ℕ} (h : Held n w tail 
     queued = is ∙ h .order i b
 
     pub queued-node : Node n v
-    queued-node = rw queued (all-at (Node n) (w .queue) i 0 (h .inv .inside) (omega (arith, h .tail-is)))
+    queued-node = rw queued (all-at (Node n) (w .queue) i 0 (h .sound .inside) (omega (arith, h .tail-is)))
 
     pub queued-seen : getD work (n + v - 1) 0 ≡ suc i + 65536 * countIn (suc i) (w .shadows)
     unfolding seenWord
     queued-seen =
         h .seen v queued-node
         ∙ ap (λ (u : ℕ). seenWord (numberIn u (w .queue)) (w .shadows)) queued
-        ∙ ap (λ (p : ℕ). seenWord p (w .shadows)) (number-getD (w .queue) i (h .inv .nodup) (omega (arith, h .tail-is)))
+        ∙ ap (λ (p : ℕ). seenWord p (w .shadows)) (number-getD (w .queue) i (h .sound .nodup) (omega (arith, h .tail-is)))
 
 -- ---- h, the count of marked nodes, by one node more
 

@@ -124,7 +124,7 @@ begin k at ea j ej = record {
   sofar = empty;
   stands = stands-row 0 (turn-first (k .sized) at ea) (omega arith) j ej (rw ej (roots-end (k .sized) at ea)) refl 0 refl refl;
   all = refl;
-  twos = k .held .inv .twos;
+  twos = k .held .sound .twos;
 }
 
 -- ---- one trit

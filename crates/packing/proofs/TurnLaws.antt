@@ -191,8 +191,7 @@ begun {t} {n} {work₁} {work₂} work s b e₁ e₂ =
           small = omega (arith, limits s .nodes-fit, s .many);
           tail-is = refl;
           fits = omega arith;
-          line = [];
-          inv = record { nodup = tt; inside = tt; size = refl; zeros = refl; ones = refl; twos = refl; kinds = refl; shows = λ q r e y. refl };
+          sound = record { nodup = tt; inside = tt; ones = refl; twos = refl };
           below = tt;
           seen = λ v h. zero-at (n + v - 1) (omega (arith, h)) (omega (arith, h));
           order = λ i h. absurd (omega arith);

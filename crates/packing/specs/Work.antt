@@ -4,10 +4,9 @@ use mathlib.Core.Path.{_≡_}
 use mathlib.Core.List.{List, []}
 use Prim.Native.Nat.{ℕ, zero, suc, _+_, _-_, _*_, _≤_, _<_}
 use lib.ListN.{length, getD, take, drop}
-use Rattle.format.specs.Lists.{All, each, numberIn, countIn}
+use Rattle.format.specs.Lists.{All, Nodup, each, numberIn, countIn}
 use Rattle.format.specs.Table.{Graph, nodes, listWords, Node, Read, faulty, graph, readTable}
 use Rattle.format.specs.Level.{Walk, seeAll}
-use Rattle.format.proofs.Walks.{Inv}
 
 -- ---- a table that is read
 
@@ -44,14 +43,20 @@ unfoldable pub seenWord : ℕ → List ℕ → ℕ
 seenWord zero H = 0
 seenWord (suc k) H = suc k + 65536 * countIn (suc k) H
 
+-- each node that the walk has seen is in the queue once; a 1 was written for each of them, and a 2 for each shadow
+pub record Sound (n : ℕ) (w : Walk) : Type 0 where
+  pub nodup : Nodup (w .queue)
+  pub inside : All (Node n) (w .queue)
+  pub ones : countIn 1 (w .trits) ≡ length (w .queue)
+  pub twos : countIn 2 (w .trits) ≡ length (w .shadows)
+
 -- the buffer holds the words of the nodes seen and the queue of the walk w, in which `tail` nodes are seen
 pub record Held (n : ℕ) (w : Walk) (tail : ℕ) (work : List ℕ) : Type 0 where
   pub room : 3 * n ≤ length work
   pub small : n ≤ 30000
   pub tail-is : tail ≡ length (w .queue)
   pub fits : tail ≤ n
-  pub line : List ℕ
-  pub inv : Inv n w line
+  pub sound : Sound n w
   pub below : All (λ h. h ≤ length (w .queue)) (w .shadows)
   pub seen : (v : ℕ) → Node n v → getD work (n + v - 1) 0 ≡ seenWord (numberIn v (w .queue)) (w .shadows)
   pub order : (i : ℕ) → i < tail → getD work (2 * n + i) 0 ≡ getD (w .queue) i 0
