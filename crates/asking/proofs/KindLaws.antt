@@ -59,7 +59,7 @@ pub never-nothing : (t : ℕ) (xs : List ℕ) (j : ℕ) → 0 < j → j ≤ coun
 never-nothing t xs zero h l e = absurd (omega arith)
 never-nothing t xs (suc j) h l e = Option·none-ne-some _ (e ∙ select-found t xs j l)
 
-pub selected-nth : {t : ℕ} {xs : List ℕ} {j p : ℕ} → Selected t xs j p → p ≡ nth t xs j
+selected-nth : {t : ℕ} {xs : List ℕ} {j p : ℕ} → Selected t xs j p → p ≡ nth t xs j
 unfolding nth
 selected-nth {t} {xs} {j} {p} s =
     let e : j - 1 ≡ rank t xs p = omega (arith, s .ranked) in

@@ -93,7 +93,7 @@ front-no-two r (suc (suc zero) ∷ ts) [] s = absurd s
 front-no-two r (suc (suc zero) ∷ ts) (h ∷ hs) s = absurd (omega arith)
 front-no-two r (suc (suc (suc t)) ∷ ts) hs s = absurd s
 
-pub proper-of-scan : (ts hs : List ℕ) → Scan ts hs → length ts ≤ 125536 → nodeCount ts ≤ 30000 → edgeCount ts ≤ 65535 → ProperTrits ts hs
+proper-of-scan : (ts hs : List ℕ) → Scan ts hs → length ts ≤ 125536 → nodeCount ts ≤ 30000 → edgeCount ts ≤ 65535 → ProperTrits ts hs
 unfolding rootsFirst balanced limits shadowsSeen nodeCount places rank shadowAt
 proper-of-scan ts hs s few n m =
     let r = words-of ts hs s in
@@ -166,7 +166,7 @@ scanned-counts ts hs p =
     let r : length (scanned ts hs .roots) ≡ rootCount ts = ap length (proper-roots ts hs s) ∙ length-run 1 (rootCount ts) in
     (proper-nodes ts hs s, omega (arith, c .size, proper-nodes ts hs s), r)
 
-pub proper-limits : (ts hs : List ℕ) → ProperTrits ts hs → WithinLimits (scanned ts hs)
+proper-limits : (ts hs : List ℕ) → ProperTrits ts hs → WithinLimits (scanned ts hs)
 unfolding limits
 proper-limits ts hs p =
     let c = scanned-counts ts hs p in

@@ -48,7 +48,7 @@ length-words [] = refl
 length-words (r ∷ rs) = omega (arith, length-words rs)
 
 -- three words an answer
-pub words-at : (rs : List Reply) (j : ℕ) (d : Reply) → j < length rs → take 3 (drop (3 * j) (join (map threeWords rs))) ≡ threeWords (getD rs j d)
+words-at : (rs : List Reply) (j : ℕ) (d : Reply) → j < length rs → take 3 (drop (3 * j) (join (map threeWords rs))) ≡ threeWords (getD rs j d)
 words-at rs j d h = block 3 threeWords (λ r. refl) rs j d h
 
 pub good-le : (rs : List Reply) → good rs ≤ length rs
@@ -119,7 +119,7 @@ module _ (image questions buffer : List ℕ) (t : Tally) where
 
       module _ (tally : TallyRoom t (length questions / 3)) where
         -- then the image is checked
-        pub batch-checks : batchFault image questions buffer t ≡ checkImage image
+        batch-checks : batchFault image questions buffer t ≡ checkImage image
         unfolding batchFault
         batch-checks =
             past-41 _ ∙ past-42 _ ∙ then-yes _ _ (fault-yes 43 (tallyHolds t (length questions / 3)) (tally-yes t (length questions / 3) tally))
@@ -144,7 +144,7 @@ pub runs-batch : (image questions buffer : List ℕ) (t : Tally) → Runs image 
 runs-batch image questions buffer t r = batch-checks image questions buffer t (r .threes) (r .buffer-room) (r .tally-room) ∙ r .proper
 
 -- question j is answered out of its own three words
-pub batch-at : (image questions buffer : List ℕ) (t : Tally) → batchFault image questions buffer t ≡ 0 → (j : ℕ) → 3 * j + 2 < length questions
+batch-at : (image questions buffer : List ℕ) (t : Tally) → batchFault image questions buffer t ≡ 0 → (j : ℕ) → 3 * j + 2 < length questions
     → take 3 (drop (3 * j) (batchOutcome image questions buffer t .words))
     ≡ threeWords (answer (tritsOf image) (shadowsOf image) (getD questions (3 * j) 0) (getD questions (3 * j + 1) 0) (getD questions (3 * j + 2) 0))
 batch-at image qs buffer t e j h =
@@ -158,13 +158,13 @@ batch-at image qs buffer t e j h =
     ∙ words-at rs j (plain 0) (omega arith)
     ∙ ap threeWords (answers-at (tritsOf image) (shadowsOf image) qs j (plain 0) h)
 
-pub batch-says : (image questions buffer : List ℕ) (t : Tally) → Runs image questions buffer t → (j : ℕ) → 3 * j + 2 < length questions → (c v s : ℕ)
+batch-says : (image questions buffer : List ℕ) (t : Tally) → Runs image questions buffer t → (j : ℕ) → 3 * j + 2 < length questions → (c v s : ℕ)
     → answer (tritsOf image) (shadowsOf image) (getD questions (3 * j) 0) (getD questions (3 * j + 1) 0) (getD questions (3 * j + 2) 0) ≡ says c v s
     → take 3 (drop (3 * j) (batchOutcome image questions buffer t .words)) ≡ c ∷ v ∷ s ∷ []
 batch-says image questions buffer t r j h c v s q = batch-at image questions buffer t (runs-batch image questions buffer t r) j h ∙ ap threeWords q
 
 -- the buffer keeps its length, whatever happens
-pub length-after : (rs : List Reply) (buffer : List ℕ) (t : Tally) → 3 * length rs ≤ length buffer → length (batchRan rs buffer t .words) ≡ length buffer
+length-after : (rs : List Reply) (buffer : List ℕ) (t : Tally) → 3 * length rs ≤ length buffer → length (batchRan rs buffer t .words) ≡ length buffer
 length-after rs buffer t h =
     let ws : List ℕ = join (map threeWords rs) in
     length-append ws (drop (length ws) buffer) ∙ omega (arith, length-words rs, length-drop (length ws) buffer)
@@ -186,7 +186,7 @@ first-words rs rest =
     ∙ ap (λ (t : List ℕ). getD t 0 0) (words-at rs j (plain 0) l)
     ∙ sym (List·getD-map code rs j (plain 0)))
 
-pub batch-leaves : (image questions buffer : List ℕ) (t : Tally) → Runs image questions buffer t → Ran questions buffer t (batchOutcome image questions buffer t)
+batch-leaves : (image questions buffer : List ℕ) (t : Tally) → Runs image questions buffer t → Ran questions buffer t (batchOutcome image questions buffer t)
 batch-leaves image questions buffer t r =
     let rs : List Reply = answers (tritsOf image) (shadowsOf image) questions in
     let ws : List ℕ = join (map threeWords rs) in

@@ -35,7 +35,7 @@ module _ (c : ℕ) (bs rest : List ℕ) where
   pub rest-back : (size : ℕ) → size ≡ length bs → restOf size (leBytes 4 c ++ (bs ++ rest)) ≡ rest
   rest-back size e = drop-at bs rest size (sym e)
 
-  pub long-enough : (size : ℕ) → size ≡ length bs → (4 ≤ length (leBytes 4 c ++ (bs ++ rest))) × (size ≤ length (bs ++ rest))
+  long-enough : (size : ℕ) → size ≡ length bs → (4 ≤ length (leBytes 4 c ++ (bs ++ rest))) × (size ≤ length (bs ++ rest))
   long-enough size e = (omega (arith, length-append (leBytes 4 c) (bs ++ rest)), omega (arith, length-append bs rest))
 
 -- one section, in the order of its faults
@@ -57,12 +57,12 @@ module _ (cf size ct : ℕ) (b : List ℕ) where
     section-count h = counted _ ∙ then-no cf _ h
 
     -- contents missing
-    pub section-short : cf ≡ 0 → length (drop 4 b) < size → sectionFault cf size ct b ≡ 21
+    section-short : cf ≡ 0 → length (drop 4 b) < size → sectionFault cf size ct b ≡ 21
     unfolding sectionFault
     section-short hc h = counted _ ∙ then-yes cf _ hc ∙ ap (λ (t : Bool). fault 21 t then ct) (lt-leb size (length (drop 4 b)) h)
 
     -- contents wrong, or nothing wrong
-    pub section-contents : cf ≡ 0 → size ≤ length (drop 4 b) → sectionFault cf size ct b ≡ ct
+    section-contents : cf ≡ 0 → size ≤ length (drop 4 b) → sectionFault cf size ct b ≡ ct
     unfolding sectionFault
     section-contents hc hs = counted _ ∙ then-yes cf _ hc ∙ ap (λ (t : Bool). fault 21 t then ct) (le-leb size (length (drop 4 b)) hs)
 
@@ -75,7 +75,7 @@ module _ (cf size ct : ℕ) (b : List ℕ) where
     contents-there = λ h r l. section-contents h (right r) l;
   }
 
-  pub section-passes : 4 ≤ length b → cf ≡ 0 → size ≤ length (drop 4 b) → ct ≡ 0 → sectionFault cf size ct b ≡ 0
+  section-passes : 4 ≤ length b → cf ≡ 0 → size ≤ length (drop 4 b) → ct ≡ 0 → sectionFault cf size ct b ≡ 0
   section-passes h c l t = section-contents h c l ∙ t
 
   -- what a section that was passed holds
@@ -104,7 +104,7 @@ module _ (cf size ct : ℕ) (b : List ℕ) where
         sound = s3 .1;
       }
 
-pub below-rest : (size : ℕ) (b : List ℕ) → Below 256 b → Below 256 (restOf size b)
+below-rest : (size : ℕ) (b : List ℕ) → Below 256 b → Below 256 (restOf size b)
 below-rest size b low = below-drop 256 size (drop 4 b) (below-drop 256 4 b low)
 
 pub below-contents : (size : ℕ) (b : List ℕ) → Below 256 b → Below 256 (contentsOf size b)
@@ -116,7 +116,7 @@ abbrev pub Small : List Section → Type 0
 Small [] = Unit {0}
 Small (s ∷ ss) = (s .entries < 256 ^ 4) × Small ss
 
-pub given-passes : (ss : List Section) → Small ss → checkGiven ss (written ss) ≡ 0
+given-passes : (ss : List Section) → Small ss → checkGiven ss (written ss) ≡ 0
 unfolding checkGiven Rattle.format.specs.Proper.givenFault sectionFault
 given-passes [] h = refl
 given-passes (s ∷ ss) h =
@@ -130,7 +130,7 @@ given-passes (s ∷ ss) h =
     ∙ ap (checkGiven ss) (rest-back c bs (written ss) (length bs) refl)
     ∙ given-passes ss (h .1)
 
-pub given-passed : (ss : List Section) (b : List ℕ) → Below 256 b → checkGiven ss b ≡ 0 → b ≡ written ss
+given-passed : (ss : List Section) (b : List ℕ) → Below 256 b → checkGiven ss b ≡ 0 → b ≡ written ss
 unfolding checkGiven sectionFault Rattle.format.specs.Proper.givenFault
 given-passed [] [] low e = refl
 given-passed [] (x ∷ b) low e =
@@ -278,7 +278,7 @@ module _ (trits H : List ℕ) (p : ProperTrits trits H) where
   unfolding tritsOf
   trits-of-image = ap₂ untrytes count1 contents1 ∙ untrytes-trytes trits (p .threes)
 
-  pub after1-image : after1 b ≡ rest1
+  after1-image : after1 b ≡ rest1
   unfolding image Rattle.format.specs.Image.section1 trytes
   after1-image = rest-back (length trits) (trytes trits) rest1 (size1 b) full1
 
@@ -293,7 +293,7 @@ module _ (trits H : List ℕ) (p : ProperTrits trits H) where
   unfolding shadowsOf
   shadows-of-image = ap₂ (λ (t r : List ℕ). fromBytes 2 (contentsOf (size2 t) r)) trits-of-image after1-image ∙ contents2
 
-  pub after2-image : after2 b ≡ rest2
+  after2-image : after2 b ≡ rest2
   unfolding after2 section2 bytes given
   after2-image = ap₂ (λ (t r : List ℕ). restOf (size2 t) r) trits-of-image after1-image ∙ rest-back (length H) (bytes 2 H) rest2 (size2 trits) full2
 

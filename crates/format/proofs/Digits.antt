@@ -43,7 +43,7 @@ high : (b d h : ℕ) → d < b → (d + b * h) / b ≡ h
 high b d h l = add-mul-div-left d h (le-trans (suc-le-suc zero-le) l) ∙ ap (λ (k : ℕ). k + h) (div-eq-of-lt l) ∙ zero-add h
 
 -- the digits of a number that was made of digits are those, and 0 past them
-pub digit-at : (b w : ℕ) (ds : List ℕ) → 0 < b → Below b ds → (r : ℕ) → r < w → getD (lowDigits b w (horner b ds)) r 0 ≡ getD ds r 0
+digit-at : (b w : ℕ) (ds : List ℕ) → 0 < b → Below b ds → (r : ℕ) → r < w → getD (lowDigits b w (horner b ds)) r 0 ≡ getD ds r 0
 digit-at b zero ds pos h r l = absurd (not-suc-le-zero l)
 digit-at b (suc w) [] pos h zero l = zero-mod b
 digit-at b (suc w) [] pos h (suc r) l = ap (λ (x : ℕ). getD (lowDigits b w x) r 0) (zero-div b) ∙ digit-at b w [] pos h r (le-of-suc-le-suc l)
@@ -175,7 +175,7 @@ module _ (b w : ℕ) (pb : 0 < b) (pw : 0 < w) where
       let ld : w * q + r < length ds = omega (arith, length-take w (drop (w * q) ds), length-drop (w * q) ds) in
       subst (λ (x : ℕ). x < b) (sym (getD-block ds q r lr)) (h (w * q + r) ld)
 
-  pub getD-spread : (ws : List ℕ) (q r : ℕ) → q < length ws → r < w → getD (spread b w ws) (w * q + r) 0 ≡ getD (lowDigits b w (getD ws q 0)) r 0
+  getD-spread : (ws : List ℕ) (q r : ℕ) → q < length ws → r < w → getD (spread b w ws) (w * q + r) 0 ≡ getD (lowDigits b w (getD ws q 0)) r 0
   getD-spread ws q r lq lr = sym (getD-block (spread b w ws) q r lr) ∙ ap (λ (l : List ℕ). getD l r 0) (spread-at b w ws q lq)
 
   pub below-spread : (ws : List ℕ) → Below b (spread b w ws)

@@ -28,17 +28,17 @@ module _ {ℓ κ} {A : Type ℓ} {B : Type κ} where
       go true e = ap {B = List B} (λ r. g x ∷ r) e
       go false e = e
 
-pub keep-run-cong : (f g : ℕ → Bool) (a n : ℕ) → ((p : ℕ) → a ≤ p → p < a + n → f p ≡ g p) → keep f (run a n) ≡ keep g (run a n)
+keep-run-cong : (f g : ℕ → Bool) (a n : ℕ) → ((p : ℕ) → a ≤ p → p < a + n → f p ≡ g p) → keep f (run a n) ≡ keep g (run a n)
 keep-run-cong f g a zero h = refl
 keep-run-cong f g a (suc n) h =
     ap₂ (λ (b : Bool) (r : List ℕ). consIf b a r) (h a (le-refl a) (omega arith)) (keep-run-cong f g (suc a) n (λ p l u. h p (omega arith) (omega arith)))
 
-pub keep-run-none : (f : ℕ → Bool) (a n : ℕ) → ((p : ℕ) → a ≤ p → p < a + n → f p ≡ false) → keep f (run a n) ≡ []
+keep-run-none : (f : ℕ → Bool) (a n : ℕ) → ((p : ℕ) → a ≤ p → p < a + n → f p ≡ false) → keep f (run a n) ≡ []
 keep-run-none f a zero h = refl
 keep-run-none f a (suc n) h =
     ap₂ (λ (b : Bool) (r : List ℕ). consIf b a r) (h a (le-refl a) (omega arith)) (keep-run-none f (suc a) n (λ p l u. h p (omega arith) (omega arith)))
 
-pub keep-run-all : (f : ℕ → Bool) (a n : ℕ) → ((p : ℕ) → a ≤ p → p < a + n → f p ≡ true) → keep f (run a n) ≡ run a n
+keep-run-all : (f : ℕ → Bool) (a n : ℕ) → ((p : ℕ) → a ≤ p → p < a + n → f p ≡ true) → keep f (run a n) ≡ run a n
 keep-run-all f a zero h = refl
 keep-run-all f a (suc n) h =
     ap₂ (λ (b : Bool) (r : List ℕ). consIf b a r) (h a (le-refl a) (omega arith)) (keep-run-all f (suc a) n (λ p l u. h p (omega arith) (omega arith)))
@@ -48,7 +48,7 @@ pub keep-run-cut : (f : ℕ → Bool) (a n m : ℕ) → keep f (run a (n + m)) �
 keep-run-cut f a n m = ap (keep f) (run-add a n m) ∙ keep-append f (run a n) (run (a + n) m)
 
 -- a test that holds from a up to e and nowhere else below L
-pub keep-run-part : (f : ℕ → Bool) (L a e : ℕ) → a ≤ e → e ≤ L
+keep-run-part : (f : ℕ → Bool) (L a e : ℕ) → a ≤ e → e ≤ L
     → ((p : ℕ) → p < a → f p ≡ false) → ((p : ℕ) → a ≤ p → p < e → f p ≡ true) → ((p : ℕ) → e ≤ p → p < L → f p ≡ false)
     → keep f (run 0 L) ≡ run a (e - a)
 keep-run-part f L a e ae eL before inside after =
@@ -72,7 +72,7 @@ operandEdges-places trits H i =
     keep-map (λ e. eqb (e .user) i) (edgeAt trits H) (keep (isEdge trits) (run 0 (length trits)))
     ∙ ap (map (edgeAt trits H)) (keep-keep (λ p. eqb (rank 0 trits p) i) (isEdge trits) (run 0 (length trits)))
 
-pub useEdges-places : (trits H : List ℕ) (i : ℕ)
+useEdges-places : (trits H : List ℕ) (i : ℕ)
     → useEdges trits H i ≡ map (edgeAt trits H) (keep (λ p. isEdge trits p && eqb (operandAt trits H p) i) (run 0 (length trits)))
 unfolding useEdges edgeAt Rattle.format.specs.Edges.edgeList
 useEdges-places trits H i =

@@ -95,7 +95,7 @@ listed-few table g a l =
     )
 
 -- a table of at most 4,000 words has at most 3,998 nodes and edges together
-pub table-few : (table : List ℕ) → length table ≤ 4000 → length (tableText (readTable table)) ≤ 100000
+table-few : (table : List ℕ) → length table ≤ 4000 → length (tableText (readTable table)) ≤ 100000
 unfolding tableText
 table-few table l = go (readTable table) refl
   where

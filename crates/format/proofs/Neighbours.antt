@@ -168,7 +168,7 @@ module _ (i : ℕ) where
         first (suc j) (r ∷ rows) h = let k : suc j - 0 ≡ suc j = omega arith in simp (le-ltb (suc j) 0 (omega arith), k)
 
 -- so the unpacked table has them, node by node
-pub scanned-operands : (ts hs : List ℕ) → ProperTrits ts hs → scanned ts hs .operands ≡ map (λ (i : ℕ). map operandOf (operandEdges ts hs i)) (oneTo (nodeCount ts))
+scanned-operands : (ts hs : List ℕ) → ProperTrits ts hs → scanned ts hs .operands ≡ map (λ (i : ℕ). map operandOf (operandEdges ts hs i)) (oneTo (nodeCount ts))
 unfolding operandsOf
 scanned-operands ts hs pr =
     let n : ℕ = nodeCount ts in
@@ -260,7 +260,7 @@ keep-join {A} f (xs ∷ xss) = keep-append f xs (join xss) ∙ ap (λ (l : List 
 
 module _ (ts hs : List ℕ) (pr : ProperTrits ts hs) where
   -- by user rising, then by operand number rising
-  pub edge-rows : edgeList ts hs ≡ join (map (operandEdges ts hs) (oneTo (nodeCount ts)))
+  edge-rows : edgeList ts hs ≡ join (map (operandEdges ts hs) (oneTo (nodeCount ts)))
   unfolding edgeList operandEdges edgeAt
   edge-rows =
       let n : ℕ = nodeCount ts in
@@ -277,7 +277,7 @@ module _ (ts hs : List ℕ) (pr : ProperTrits ts hs) where
   -- ---- uses
 
   -- the edges to v: those of user 1 in order, then those of user 2, ..
-  pub uses-by-user : (v : ℕ) → useEdges ts hs v ≡ join (map (λ (i : ℕ). keep (λ e. eqb (e .operand) v) (operandEdges ts hs i)) (oneTo (nodeCount ts)))
+  uses-by-user : (v : ℕ) → useEdges ts hs v ≡ join (map (λ (i : ℕ). keep (λ e. eqb (e .operand) v) (operandEdges ts hs i)) (oneTo (nodeCount ts)))
   unfolding useEdges
   uses-by-user v =
       let to : Edge → Bool = λ e. eqb (e .operand) v in

@@ -37,7 +37,7 @@ length-zero [] e = refl
 length-zero (x ∷ l) e = absurd (suc-ne-zero (length l) e)
 
 -- as many as n: all of them
-pub fits-perm : (n : ℕ) (q : List ℕ) → Nodup q → All (Node n) q → length q ≡ n → List·Permᴰ q (oneTo n)
+fits-perm : (n : ℕ) (q : List ℕ) → Nodup q → All (Node n) q → length q ≡ n → List·Permᴰ q (oneTo n)
 fits-perm n q d a e =
     let c = fits n q d a in
     let z : c .0 ≡ [] = length-zero (c .0) (omega (arith, length-append q (c .0), perm-length (c .1), length-run 1 n)) in

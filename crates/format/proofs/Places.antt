@@ -65,7 +65,7 @@ cond-no : {X : Type 0} (b : Bool) (x y : X) → T (not b) → cond b x y ≡ y
 cond-no true x y t = absurd t
 cond-no false x y t = refl
 
-pub number-here : (v x : ℕ) (q : List ℕ) → v ≡ x → numberIn v (x ∷ q) ≡ 1
+number-here : (v x : ℕ) (q : List ℕ) → v ≡ x → numberIn v (x ∷ q) ≡ 1
 unfolding numberIn
 number-here v x q e = cond-yes (eqb v x) 1 (onward (numberIn v q)) (rw e (eqb-refl x))
 
@@ -73,20 +73,20 @@ pub number-there : (v x : ℕ) (q : List ℕ) → v ≢ x → numberIn v (x ∷ 
 unfolding numberIn
 number-there v x q h = cond-no (eqb v x) 1 (onward (numberIn v q)) (not-T (eqb v x) (λ t. h (eqb→eq v x t)))
 
-pub onward-zero : (p : ℕ) → onward p ≡ 0 → p ≡ 0
+onward-zero : (p : ℕ) → onward p ≡ 0 → p ≡ 0
 onward-zero zero e = refl
 onward-zero (suc p) e = absurd (suc-ne-zero (suc p) e)
 
-pub onward-one : (p : ℕ) → onward p ≢ 1
+onward-one : (p : ℕ) → onward p ≢ 1
 onward-one zero e = absurd (suc-ne-zero 0 (sym e))
 onward-one (suc p) e = absurd (suc-ne-zero p (suc-inj e))
 
-pub onward-suc : (p k : ℕ) → onward p ≡ suc (suc k) → p ≡ suc k
+onward-suc : (p k : ℕ) → onward p ≡ suc (suc k) → p ≡ suc k
 onward-suc zero k e = absurd (suc-ne-zero (suc k) (sym e))
 onward-suc (suc p) k e = suc-inj e
 
 -- a number that does not stand in x ∷ q
-pub number-zero : (v x : ℕ) (q : List ℕ) → numberIn v (x ∷ q) ≡ 0 → (v ≢ x) × (numberIn v q ≡ 0)
+number-zero : (v x : ℕ) (q : List ℕ) → numberIn v (x ∷ q) ≡ 0 → (v ≢ x) × (numberIn v q ≡ 0)
 number-zero v x q e = elim (ℕ-discrete v x) [ yes h ↦ absurd (suc-ne-zero 0 (sym (number-here v x q h) ∙ e)) | no h ↦ (h, onward-zero (numberIn v q) (sym (number-there v x q h) ∙ e)) ]
 
 -- the place in q ++ r, from the places in q and in r
@@ -104,7 +104,7 @@ after-cons (suc p) l j = refl
 after-cons zero l zero = refl
 after-cons zero l (suc j) = ap suc (sym (suc-add l j))
 
-pub number-append : (v : ℕ) (q r : List ℕ) → numberIn v (q ++ r) ≡ numberAfter (numberIn v q) (length q) (numberIn v r)
+number-append : (v : ℕ) (q r : List ℕ) → numberIn v (q ++ r) ≡ numberAfter (numberIn v q) (length q) (numberIn v r)
 unfolding numberIn
 number-append v [] r = after-nil (numberIn v r)
 number-append v (x ∷ q) r = elim (ℕ-discrete v x) [
@@ -189,7 +189,7 @@ all-run a zero = tt
 all-run a (suc k) =
     (omega arith, all-imp (λ x. (suc a ≤ x) × (x < suc a + k)) (λ x. (a ≤ x) × (x < a + suc k)) (run (suc a) k) (λ x h. omega arith) (all-run (suc a) k))
 
-pub number-none : (v : ℕ) (q : List ℕ) → All (λ x. v ≢ x) q → numberIn v q ≡ 0
+number-none : (v : ℕ) (q : List ℕ) → All (λ x. v ≢ x) q → numberIn v q ≡ 0
 unfolding numberIn
 number-none v [] a = refl
 number-none v (x ∷ q) a = number-there v x q (a .0) ∙ ap onward (number-none v q (a .1))
@@ -213,7 +213,7 @@ number-next r = number-none (suc r) (oneTo r) (all-imp (λ x. (1 ≤ x) × (x < 
 -- ---- permutations
 
 -- what stands in a list, cut around it
-pub cut-at : {A : Type 0} {x : A} {ys : List A} → List·Memᴰ x ys → (a : List A) × (b : List A) × (ys ≡ a ++ x ∷ b)
+cut-at : {A : Type 0} {x : A} {ys : List A} → List·Memᴰ x ys → (a : List A) × (b : List A) × (ys ≡ a ++ x ∷ b)
 cut-at {A} {x} (List·Memᴰ·head {xs = xs} e) = ([], xs, ap (λ (z : A). z ∷ xs) (sym e))
 cut-at {A} {x} (List·Memᴰ·tail {x = y} m) = let r = cut-at m in (y ∷ r .0, r .1, ap (λ (l : List A). y ∷ l) (r .2))
 

@@ -58,15 +58,15 @@ back t (suc x ∷ xs) (suc p) pt l r =
     omega (arith, back t xs p pt (le-of-suc-le-suc l) (omega (arith, ap bit (ne-eqb (suc x) 0 (λ q. omega arith)))))
 
 -- a node is a root exactly if its 1 has no zero before it
-pub root-front : (trits : List ℕ) (i r : ℕ) → Selected 1 trits i r → rank 0 trits r ≡ 0 → i ≤ rootCount trits
+root-front : (trits : List ℕ) (i r : ℕ) → Selected 1 trits i r → rank 0 trits r ≡ 0 → i ≤ rootCount trits
 unfolding rootCount
 root-front trits i r s e = omega (arith, front 1 trits r (le-refl 1) (s .inside) e (s .holds), s .ranked)
 
-pub root-back : (trits : List ℕ) (i r : ℕ) → Selected 1 trits i r → 0 < rank 0 trits r → rootCount trits < i
+root-back : (trits : List ℕ) (i r : ℕ) → Selected 1 trits i r → 0 < rank 0 trits r → rootCount trits < i
 unfolding rootCount
 root-back trits i r s h = let inr : r < length trits = s .inside in omega (arith, back 1 trits r (le-refl 1) (omega arith) h, s .ranked)
 
-pub root-test : (trits : List ℕ) (i r : ℕ) → Selected 1 trits i r → ltb 0 (rank 0 trits r) ≡ ltb (rootCount trits) i
+root-test : (trits : List ℕ) (i r : ℕ) → Selected 1 trits i r → ltb 0 (rank 0 trits r) ≡ ltb (rootCount trits) i
 root-test trits i r s = go (rank 0 trits r) refl
   where
     go : (x : ℕ) → rank 0 trits r ≡ x → ltb 0 (rank 0 trits r) ≡ ltb (rootCount trits) i

@@ -18,7 +18,7 @@ use Rattle.format.proofs.Order.{order-mem, fits-length}
 
 -- ---- the walk ends: no node is left after n turns
 
-pub walk-short : (g : Graph) → WellFormed g → length (walk g .queue) ≤ nodes g
+walk-short : (g : Graph) → WellFormed g → length (walk g .queue) ≤ nodes g
 unfolding walk
 walk-short g f = fits-length (nodes g) (walk g .queue) (inv-turns g f (nodes g) .nodup) (inv-turns g f (nodes g) .inside)
 
@@ -103,7 +103,7 @@ order-reach g f (further {u = u} r m) =
     (all-mem (λ (y : ℕ). All (λ (x : ℕ). List·Memᴰ x (walk g .queue)) (operandsOf g y)) (walk g .queue) (closed-walk g f) (order-reach g f r)) m
 
 -- the level order has exactly what the roots reach
-pub order-reaches : (g : Graph) → WellFormed g → (v : ℕ) → List·Memᴰ v (levelOrder g) ↔ Reach g v
+order-reaches : (g : Graph) → WellFormed g → (v : ℕ) → List·Memᴰ v (levelOrder g) ↔ Reach g v
 unfolding levelOrder walk
 order-reaches g f v = ((λ m. all-mem (Reach g) (walk g .queue) (reach-turns g (nodes g)) m), order-reach g f)
 

@@ -65,7 +65,7 @@ module _ (trits H : List ℕ) where
   rank-33 a b h k = ap₂ (λ (t s : Bool). within 32 t (within 33 s (plain (rank a trits b)))) (le-leb a 2 h) (lt-leb b (length trits) k)
 
   -- p holds a, and b - 1 times a stands before it
-  pub select-reply : (a b p : ℕ) → a ≤ 2 → Selected a trits b p → answer trits H 2 a b ≡ says 0 p 0
+  select-reply : (a b p : ℕ) → a ≤ 2 → Selected a trits b p → answer trits H 2 a b ≡ says 0 p 0
   unfolding answer selectAnswer
   select-reply a b p h s =
       ap₂ (λ (t : Bool) (o : Option ℕ). within 32 t (placeOr33 o)) (le-leb a 2 h)

@@ -9,7 +9,7 @@ use mathlib.Core.List.{List, [], _∷_, List·Memᴰ, List·Memᴰ·head, List·
 use lib.ListN.{length}
 use Rattle.format.specs.Lists.{run, consIf, keep, RisingFrom}
 
-pub rising-lower : (a b : ℕ) (xs : List ℕ) → b ≤ a → RisingFrom a xs → RisingFrom b xs
+rising-lower : (a b : ℕ) (xs : List ℕ) → b ≤ a → RisingFrom a xs → RisingFrom b xs
 rising-lower a b [] h r = tt
 rising-lower a b (x ∷ xs) h r = (le-trans h (r .0), r .1)
 

@@ -127,7 +127,7 @@ unfolding operandNumbers cut
 row-le r z [] hs s h = absurd (h refl)
 row-le r z (t ∷ ts) hs s h = stands-le r z t ts hs s
 
-pub writtenRows : Walk → ℕ → List ℕ → List ℕ → Walk
+writtenRows : Walk → ℕ → List ℕ → List ℕ → Walk
 writtenRows w r ts hs = record { queue = oneTo r; trits = w .trits ++ ts; shadows = w .shadows ++ hs }
 
 module _ (g : Graph) where
@@ -258,7 +258,7 @@ module _ (ts hs : List ℕ) (p : Scan ts hs) where
   roots-nodup : Nodup (scanned ts hs .roots)
   roots-nodup = subst Nodup (sym proper-roots) (nodup-run 1 (countIn 1 (untilZero ts)))
 
-  pub proper-formed : WellFormed (scanned ts hs)
+  proper-formed : WellFormed (scanned ts hs)
   unfolding scanned rows
   proper-formed = graph-formed rows (countIn 1 ts) proper-nodes (all-rows (countIn 1 ts) 0 0 ts hs (p .stands) (omega arith)) roots-nodup
 

@@ -46,7 +46,7 @@ length-placesFrom s t (x ∷ xs) =
 pub length-places : (t : ℕ) (xs : List ℕ) → length (places t xs) ≡ countIn t xs
 length-places t xs = ap length (places-from t xs) ∙ length-placesFrom 0 t xs
 
-pub placesFrom-append : (s t : ℕ) (xs ys : List ℕ) → placesFrom s t (xs ++ ys) ≡ placesFrom s t xs ++ placesFrom (s + length xs) t ys
+placesFrom-append : (s t : ℕ) (xs ys : List ℕ) → placesFrom s t (xs ++ ys) ≡ placesFrom s t xs ++ placesFrom (s + length xs) t ys
 placesFrom-append s t [] ys = ap (λ (k : ℕ). placesFrom k t ys) (sym (add-zero s))
 placesFrom-append s t (x ∷ xs) ys =
     ap (consIf (eqb x t) s) (placesFrom-append (suc s) t xs ys ∙ ap (λ (k : ℕ). placesFrom (suc s) t xs ++ placesFrom k t ys) (suc-add s (length xs) ∙ sym (add-suc s (length xs))))
@@ -61,7 +61,7 @@ skip : (b : Bool) (x : ℕ) (xs : List ℕ) (r : ℕ) → getElem? (consIf b x x
 skip true x xs r = ap (getElem? (x ∷ xs)) (one-add r)
 skip false x xs r = ap (getElem? xs) (zero-add r)
 
-pub places-at : (s t : ℕ) (xs : List ℕ) (p : ℕ) → p < length xs → getD xs p 0 ≡ t → getElem? (placesFrom s t xs) (rank t xs p) ≡ some (s + p)
+places-at : (s t : ℕ) (xs : List ℕ) (p : ℕ) → p < length xs → getD xs p 0 ≡ t → getElem? (placesFrom s t xs) (rank t xs p) ≡ some (s + p)
 unfolding rank
 places-at s t [] p h e = absurd (not-suc-le-zero h)
 places-at s t (x ∷ xs) zero h e =
@@ -78,7 +78,7 @@ pub record Holds (s t : ℕ) (xs : List ℕ) (j q : ℕ) : Type 0 where
   pub holds : getD xs (q - s) 0 ≡ t
   pub ranked : rank t xs (q - s) ≡ j
 
-pub places-some : (s t : ℕ) (xs : List ℕ) (j q : ℕ) → getElem? (placesFrom s t xs) j ≡ some q → Holds s t xs j q
+places-some : (s t : ℕ) (xs : List ℕ) (j q : ℕ) → getElem? (placesFrom s t xs) j ≡ some q → Holds s t xs j q
 unfolding rank
 places-some s t [] j q e = absurd (Option·none-ne-some q e)
 places-some s t (x ∷ xs) j q e = go (λ i ei. places-some (suc s) t xs i q ei) (eqb x t) refl j refl e
@@ -129,7 +129,7 @@ getElem-none [] j h = refl
 getElem-none (x ∷ xs) zero h = absurd (not-suc-le-zero h)
 getElem-none (x ∷ xs) (suc j) h = getElem-none xs j (le-of-suc-le-suc h)
 
-pub getElem-some : (xs : List ℕ) (j d : ℕ) → j < length xs → getElem? xs j ≡ some (getD xs j d)
+getElem-some : (xs : List ℕ) (j d : ℕ) → j < length xs → getElem? xs j ≡ some (getD xs j d)
 getElem-some [] j d h = absurd (not-suc-le-zero h)
 getElem-some (x ∷ xs) zero d h = refl
 getElem-some (x ∷ xs) (suc j) d h = getElem-some xs j d (le-of-suc-le-suc h)

@@ -49,7 +49,7 @@ checker-gives b =
 -- ---- contents, entry by entry
 
 -- contents whose every number is as it should be are as they should be
-pub bytes-ext : (w : ℕ) (bs xs : List ℕ) → 0 < w → Below 256 bs → length bs ≡ w * length xs
+bytes-ext : (w : ℕ) (bs xs : List ℕ) → 0 < w → Below 256 bs → length bs ≡ w * length xs
     → ((i : ℕ) → i < length xs → leNumber (take w (drop (w * i) bs)) ≡ getD xs i 0) → bs ≡ bytes w xs
 unfolding fromBytes
 bytes-ext w bs xs pw low len h =

@@ -89,7 +89,7 @@ module _ (g h : Graph) (fg : WellFormed g) (f : ℕ → ℕ) (inj : (u v : ℕ) 
   taken-map (v ∷ l) w b a =
       ap close (ap (λ (vs : List ℕ). seeAll vs (mapped f w)) (sym (os v (b .0))) ∙ seeAll-map (nodes g) f inj (operandsOf g v) w (operands-inside g fg v) a)
 
-  pub turns-map : (i : ℕ) → turns h i ≡ mapped f (turns g i)
+  turns-map : (i : ℕ) → turns h i ≡ mapped f (turns g i)
   unfolding turns superRoot
   turns-map zero = λ i. record {
     queue = sym rs i;
@@ -103,7 +103,7 @@ module _ (g h : Graph) (fg : WellFormed g) (f : ℕ → ℕ) (inj : (u v : ℕ) 
       ∙ ap (λ (l : List ℕ). taken h l (mapped f w)) (drop-map f i (w .queue))
       ∙ taken-map (drop i (w .queue)) w (all-drop (Node (nodes g)) i (w .queue) a) a
 
-  pub walk-map : nodes h ≡ nodes g → walk h ≡ mapped f (walk g)
+  walk-map : nodes h ≡ nodes g → walk h ≡ mapped f (walk g)
   unfolding walk
   walk-map e = ap (turns h) e ∙ turns-map (nodes g)
 
@@ -133,7 +133,7 @@ same-nodes g h p k s =
     (same-le h g k (s .from) (s .from-node) (λ u v a b e. sym (s .to-from u a) ∙ ap (s .to) e ∙ s .to-from v b))
     (same-le g h p (s .to) (s .to-node) (same-inj g h s))
 
-pub same-walk : (g h : Graph) → Packable g → Packable h → (s : Renumbering g h) → walk h ≡ mapped (s .to) (walk g)
+same-walk : (g h : Graph) → Packable g → Packable h → (s : Renumbering g h) → walk h ≡ mapped (s .to) (walk g)
 same-walk g h p k s = walk-map g h (p .formed) (s .to) (same-inj g h s) (s .roots-to) (s .operands-to) (same-nodes g h p k s)
 
 -- ---- from trits to graphs
@@ -144,7 +144,7 @@ unfolding renumbered operandsOf
 renumbered-row g q zero = refl
 renumbered-row g q (suc k) = List·getD-map (λ (v : ℕ). map (λ (u : ℕ). numberIn u q) (operandsOf g v)) q k 0
 
-pub renumbered-nodes : (g : Graph) (q : List ℕ) → nodes (renumbered g q) ≡ length q
+renumbered-nodes : (g : Graph) (q : List ℕ) → nodes (renumbered g q) ≡ length q
 unfolding renumbered
 renumbered-nodes g q = length-map q (λ (v : ℕ). map (λ (u : ℕ). numberIn u q) (operandsOf g v))
 
@@ -174,7 +174,7 @@ across-back g h p k e v a =
     ∙ node-number (levelOrder g) v (order-number g p v a)
 
 -- two graphs that are one in level numbers
-pub same-of-renumbered : (g h : Graph) → Packable g → Packable h → renumbered g (levelOrder g) ≡ renumbered h (levelOrder h) → Renumbering g h
+same-of-renumbered : (g h : Graph) → Packable g → Packable h → renumbered g (levelOrder g) ≡ renumbered h (levelOrder h) → Renumbering g h
 unfolding renumbered
 same-of-renumbered g h p k e =
     let q : List ℕ = levelOrder g in

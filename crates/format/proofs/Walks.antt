@@ -18,7 +18,7 @@ use Rattle.format.proofs.Places.{all-append, all-getD, nodup-snoc, nodu
 
 -- ---- a well-formed graph
 
-pub and-both : (a b : Bool) → T (a && b) → T a × T b
+and-both : (a b : Bool) → T (a && b) → T a × T b
 and-both true b t = (tt, t)
 and-both false b t = absurd t
 
@@ -50,12 +50,12 @@ see-all P v w h a = see-cases (λ (x : Walk). All P (x .queue)) v w (λ e. all-a
 
 -- ---- the numbers that trits and shadows stand for
 
-pub count-no-trit : (t : ℕ) (ts : List ℕ) → (countIn 1 (suc (suc (suc t)) ∷ ts) ≡ countIn 1 ts) × (countIn 2 (suc (suc (suc t)) ∷ ts) ≡ countIn 2 ts)
+count-no-trit : (t : ℕ) (ts : List ℕ) → (countIn 1 (suc (suc (suc t)) ∷ ts) ≡ countIn 1 ts) × (countIn 2 (suc (suc (suc t)) ∷ ts) ≡ countIn 2 ts)
 count-no-trit t ts =
     let x : ℕ = suc (suc (suc t)) in
     (omega (arith, ap bit (ne-eqb x 1 (λ e. omega arith))), omega (arith, ap bit (ne-eqb x 2 (λ e. omega arith))))
 
-pub operandNumbers-append : (r m : ℕ) (ts us hs ks : List ℕ) → countIn 2 ts ≡ length hs → m ≡ r + countIn 1 ts
+operandNumbers-append : (r m : ℕ) (ts us hs ks : List ℕ) → countIn 2 ts ≡ length hs → m ≡ r + countIn 1 ts
     → operandNumbers r (ts ++ us) (hs ++ ks) ≡ operandNumbers r ts hs ++ operandNumbers m us ks
 unfolding operandNumbers
 operandNumbers-append r m [] us [] ks e c = ap (λ (n : ℕ). operandNumbers n us ks) (omega arith)
@@ -138,16 +138,16 @@ module _ (n : ℕ) where
       (i .nodup) (i .inside)
       (λ q r eq z. ap (λ (p : ℕ). p ∷ []) (sym (ap (numberIn v) eq ∙ number-in v k (w .queue) r e)))
 
-  pub inv-close : (w : Walk) (line : List ℕ) → Inv n w line → Inv n (close w) (line ++ 0 ∷ [])
+  inv-close : (w : Walk) (line : List ℕ) → Inv n w line → Inv n (close w) (line ++ 0 ∷ [])
   unfolding operandNumbers
   inv-close w line i =
       inv-step w line i 0 0 [] [] (close w) (sym (append-nil (w .queue))) refl (sym (append-nil (w .shadows))) refl refl refl refl
       (i .nodup) (i .inside) (λ q r eq z. ap (λ (p : ℕ). p ∷ []) (sym z))
 
-  pub inv-see : (v : ℕ) (w : Walk) (line : List ℕ) → Node n v → Inv n w line → Inv n (see v w) (line ++ v ∷ [])
+  inv-see : (v : ℕ) (w : Walk) (line : List ℕ) → Node n v → Inv n w line → Inv n (see v w) (line ++ v ∷ [])
   inv-see v w line h i = see-cases (λ (x : Walk). Inv n x (line ++ v ∷ [])) v w (inv-new v w line h i) (inv-old v w line h i)
 
-  pub inv-seeAll : (vs : List ℕ) (w : Walk) (line : List ℕ) → All (Node n) vs → Inv n w line → Inv n (seeAll vs w) (line ++ vs)
+  inv-seeAll : (vs : List ℕ) (w : Walk) (line : List ℕ) → All (Node n) vs → Inv n w line → Inv n (seeAll vs w) (line ++ vs)
   unfolding seeAll
   inv-seeAll [] w line a i = rw append-nil i
   inv-seeAll (v ∷ vs) w line a i = rw append-snoc at (inv-seeAll vs (see v w) (line ++ v ∷ []) (a .1) (inv-see v w line (a .0) i))
@@ -158,7 +158,7 @@ abbrev pub empty : Walk
 empty = record { queue = []; trits = []; shadows = [] }
 
 -- operands that are all new
-pub seeAll-new : (vs : List ℕ) (w : Walk) → Nodup (w .queue ++ vs)
+seeAll-new : (vs : List ℕ) (w : Walk) → Nodup (w .queue ++ vs)
     → seeAll vs w ≡ record { queue = w .queue ++ vs; trits = w .trits ++ replicate (length vs) 1; shadows = w .shadows }
 unfolding seeAll
 seeAll-new [] w d = λ i. record { queue = sym (append-nil (w .queue)) i; trits = sym (append-nil (w .trits)) i; shadows = w .shadows }
@@ -171,7 +171,7 @@ pub start-visit : (g : Graph) → Nodup (g .roots) → superRoot g ≡ close (se
 unfolding superRoot
 start-visit g d = ap close (sym (seeAll-new (g .roots) empty d))
 
-pub inv-start : (g : Graph) → WellFormed g → Inv (nodes g) (superRoot g) (g .roots ++ 0 ∷ [])
+inv-start : (g : Graph) → WellFormed g → Inv (nodes g) (superRoot g) (g .roots ++ 0 ∷ [])
 unfolding operandNumbers
 inv-start g f =
     rw (start-visit g (f .roots-nodup))
@@ -184,7 +184,7 @@ inv-start g f =
 abbrev pub Grows : List ℕ → Walk → Type 0
 Grows q w = (r : List ℕ) × (w .queue ≡ q ++ r)
 
-pub see-grows : (v : ℕ) (w : Walk) → Grows (w .queue) (see v w)
+see-grows : (v : ℕ) (w : Walk) → Grows (w .queue) (see v w)
 see-grows v w = see-cases (Grows (w .queue)) v w (λ e. (v ∷ [], refl)) (λ k e. ([], sym (append-nil (w .queue))))
 
 pub seeAll-grows : (vs : List ℕ) (w : Walk) → Grows (w .queue) (seeAll vs w)
@@ -195,7 +195,7 @@ seeAll-grows (v ∷ vs) w =
     let b = seeAll-grows vs (see v w) in
     (a .0 ++ b .0, b .1 ∙ ap (λ (l : List ℕ). l ++ b .0) (a .1) ∙ append-assoc (w .queue) (a .0) (b .0))
 
-pub taken-grows : (g : Graph) (q l : List ℕ) (w : Walk) → Grows q w → Grows q (taken g l w)
+taken-grows : (g : Graph) (q l : List ℕ) (w : Walk) → Grows q w → Grows q (taken g l w)
 unfolding visit
 taken-grows g q [] w a = a
 taken-grows g q (v ∷ l) w a =
@@ -213,7 +213,7 @@ unfoldable pub rowsOf : Graph → List ℕ → List ℕ
 rowsOf g [] = []
 rowsOf g (v ∷ vs) = operandsOf g v ++ 0 ∷ rowsOf g vs
 
-pub rowsOf-snoc : (g : Graph) (vs : List ℕ) (v : ℕ) → rowsOf g (vs ++ v ∷ []) ≡ rowsOf g vs ++ operandsOf g v ++ 0 ∷ []
+rowsOf-snoc : (g : Graph) (vs : List ℕ) (v : ℕ) → rowsOf g (vs ++ v ∷ []) ≡ rowsOf g vs ++ operandsOf g v ++ 0 ∷ []
 unfolding rowsOf
 rowsOf-snoc g [] v = refl
 rowsOf-snoc g (u ∷ vs) v =

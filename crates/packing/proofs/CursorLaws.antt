@@ -58,7 +58,7 @@ cancel-right a b c d e f =
     sym (take-append-seam a c) ∙ (λ i. take (l i) (e i)) ∙ take-append-seam b d
 
 module _ {t : List ℕ} {n : ℕ} where
-  pub rest-one : {l l′ : Walk} {c c′ : Cursor} → Rest t n l c → Rest t n l′ c′ → l .trits ≡ l′ .trits → c ≡ c′
+  rest-one : {l l′ : Walk} {c c′ : Cursor} → Rest t n l c → Rest t n l′ c′ → l .trits ≡ l′ .trits → c ≡ c′
   rest-one {l} {l′} r r′ e =
       stands-one (r .stands) (r′ .stands)
       (cancel-right (r .sofar .trits) (r′ .sofar .trits) (l .trits) (l′ .trits) (ap (λ (x : Walk). x .trits) (sym (r .all) ∙ r′ .all)) e)

@@ -44,10 +44,10 @@ pub record Puts (at : ℕ) (ss : List Section) (l r : List ℕ) : Type 0 where
   pub inside : at + size ss ≤ length l + 4
   pub is : r ≡ putAt l (at - 4) (written ss)
 
-pub puts-size : {at : ℕ} {ss : List Section} {l r : List ℕ} → Puts at ss l r → length r ≡ length l
+puts-size : {at : ℕ} {ss : List Section} {l r : List ℕ} → Puts at ss l r → length r ≡ length l
 puts-size {at} {ss} {l} p = ap length (p .is) ∙ length-put (at - 4) l (written ss) (omega (arith, p, length-written ss))
 
-pub puts-first : {at : ℕ} {ss : List Section} {l r : List ℕ} → Puts at ss l r → at ≡ 4 → r ≡ putAt l 0 (written ss)
+puts-first : {at : ℕ} {ss : List Section} {l r : List ℕ} → Puts at ss l r → at ≡ 4 → r ≡ putAt l 0 (written ss)
 puts-first {ss = ss} {l = l} {r = r} p e = subst (λ (k : ℕ). r ≡ putAt l (k - 4) (written ss)) e (p .is)
 
 -- a count, and behind it contents: a section

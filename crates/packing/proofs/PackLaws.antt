@@ -63,7 +63,7 @@ unfolding startOf
 roots-at {t} {n} s = let os = graphOf t .operands in rw (take-all n os (omega (arith, s .many))) (omega (arith, length-runs os, s .many))
 
 -- a buffer that changed only in its first b words, cleared
-pub cleared-same : (b : ℕ) (l l′ : List ℕ) → length l′ ≡ length l → Kept 0 b l l′ → over (replicate b 0) l′ ≡ over (replicate b 0) l
+cleared-same : (b : ℕ) (l l′ : List ℕ) → length l′ ≡ length l → Kept 0 b l l′ → over (replicate b 0) l′ ≡ over (replicate b 0) l
 cleared-same b l l′ e k =
     rw (length-replicate {A = ℕ} b 0)
     (ap (λ (x : List ℕ). replicate b 0 ++ x)

@@ -22,7 +22,7 @@ use Rattle.packing.proofs.HeldLaws.{held-close, queued, queued-node}
 
 -- ---- the shadows are no more than the operands of the nodes taken, so at most m
 
-pub seeAll-shadows : (vs : List ℕ) (w : Walk) → length (seeAll vs w .shadows) ≤ length (w .shadows) + length vs
+seeAll-shadows : (vs : List ℕ) (w : Walk) → length (seeAll vs w .shadows) ≤ length (w .shadows) + length vs
 unfolding seeAll
 seeAll-shadows [] w = omega arith
 seeAll-shadows (v ∷ vs) w =

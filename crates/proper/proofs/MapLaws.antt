@@ -33,7 +33,7 @@ pub map-none : MarkMap [] (replicate 469 0)
 unfolding marked
 map-none = record { long = length-replicate {A = ℕ} 469 0; bits = λ v l. bit-none 469 v (omega arith) }
 
-pub map-more : {H ws : List ℕ} {r : ℕ} (x : ℕ) → MarkMap H ws → x < 30016 → BitSet (getD ws (x / 64) 0) (x % 64) r → MarkMap (H ++ suc x ∷ []) (set ws (x / 64) r)
+map-more : {H ws : List ℕ} {r : ℕ} (x : ℕ) → MarkMap H ws → x < 30016 → BitSet (getD ws (x / 64) 0) (x % 64) r → MarkMap (H ++ suc x ∷ []) (set ws (x / 64) r)
 unfolding marked
 map-more {H} {ws} {r} x m small now = record { long = length-set ws (x / 64) r ∙ m .long; bits = go }
   where

@@ -43,7 +43,7 @@ module _ {trits H ms : List ℕ} (k : Marked trits H ms) where
   pub length-words : length ms ≡ 8 * up (nodeCount trits) 64
   length-words = ap length (k .marks-are) ∙ length-bytes 8 (markWords trits H) ∙ ap (λ (n : ℕ). 8 * n) (length-markWords trits H)
 
-  pub ones-next : (w : ℕ) → 8 * w + 8 ≤ length ms → rank 1 (marks trits H) (64 * (w + 1)) ≡ rank 1 (marks trits H) (64 * w) + ones (read 8 (8 * w) ms)
+  ones-next : (w : ℕ) → 8 * w + 8 ≤ length ms → rank 1 (marks trits H) (64 * (w + 1)) ≡ rank 1 (marks trits H) (64 * w) + ones (read 8 (8 * w) ms)
   unfolding rank markWords
   ones-next w l =
       let n : ℕ = nodeCount trits in

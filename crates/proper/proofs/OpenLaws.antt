@@ -57,7 +57,7 @@ pub record Front (s : Section) (entries size : ℕ) : Type 0 where
   pub fills : length (s .contents) ≡ size
 
 module _ {s : Section} {entries size : ℕ} (F : Front s entries size) (b : List ℕ) where
-  pub given-is : givenFault s b ≡ (opens 25 entries size b then fault 25 (same (contentsOf size b) (s .contents)))
+  given-is : givenFault s b ≡ (opens 25 entries size b then fault 25 (same (contentsOf size b) (s .contents)))
   unfolding givenFault
   given-is = rw (← F .counts, ← F .fills) (opens-then 25 (s .entries) (length (s .contents)) b _)
 

@@ -35,7 +35,7 @@ planned s trits part few e = record { paced = paced s; full = e; fits = numbers-
 
 -- ---- numbers in a section
 
-pub width-some : {w : ℕ} → Width w → 0 < w
+width-some : {w : ℕ} → Width w → 0 < w
 width-some {w} h = elim (ℕ-discrete w 4) [
   | yes e ↦ omega arith
   | no n ↦ elim (ℕ-discrete w 2) [
