@@ -4,13 +4,14 @@ use crate::started::smaller;
 use little::get2;
 use little::get4;
 use little::wide;
-use trits::digits::power;
+use trits::digits::trit;
 use trits::digits::tryte_count;
+use trits::digits::tryte_cut;
 ghost use mathlib.Core.Path.{_≡_};
 ghost use mathlib.Core.List.{List};
 ghost use Prim.Native.Nat.{ℕ, _+_, _*_, _≤_, _<_};
-ghost use lib.ListN.{length, getD};
-ghost use Rattle.format.specs.Lists.{over, spread, countIn};
+ghost use lib.ListN.{length};
+ghost use Rattle.format.specs.Lists.{over, countIn};
 ghost use Rattle.format.specs.Trits.{rank, tryteCount, tryteTable};
 ghost use Rattle.format.specs.Image.{read};
 ghost use Rattle.samples.specs.Lent.{TritsIn};
@@ -174,19 +175,8 @@ fn twos_before(
     let q = p / 5;
     let before = twos_whole(bs, counts, twos, l, step, q);
     let x = wide(bs[q]);
-    let front = x % power(p % 5);
+    let front = tryte_cut(x, p % 5);
     before + two_count(counts, front)
-}
-
-// Trit `p` of trytes, by one division: the places of section 5 come in no order that a branch could follow.
-fn lone_trit(bs: &[u8], p: usize) -> usize
-    requires { ⌜ p < 5 * length (now bs) ⌝ }
-    ensures { λ r. ⌜ (r ≡ getD (spread 3 5 (now (bs .entry))) p 0) × (r < 3) ⌝ }
-{
-    let q = p / 5;
-    let x = wide(bs[q]);
-    let w = power(p % 5);
-    x / w % 3
 }
 
 // Entry `e` of section 5: a place that holds a 2, with a key of at least `low`.
@@ -210,7 +200,7 @@ fn entry_key(
     if l <= p {
         return Entry::Wrong;
     }
-    if lone_trit(bs, p) != 2 {
+    if trit(bs, p) != 2 {
         return Entry::Wrong;
     }
     let j = twos_before(bs, counts, twos, l, step, p);

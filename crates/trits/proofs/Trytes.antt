@@ -82,6 +82,18 @@ unfolding cut-right
 cut-entry x r h l =
     eqb-true _ _ (every-from (λ r. eqb (getD tryteTable (x % 3 ^ r) 0) (tryteCount 0 x r + (5 - r) + 8 * tryteCount 1 x r)) 5 (every-from cut-right 243 all-cut x h) r l)
 
+-- a product in place of a division, for every byte
+rest-right : ℕ → Bool
+rest-right x = every (λ r. eqb (x * (65536 / 3 ^ r + 1) / 65536) (x / 3 ^ r)) (run 0 5)
+
+all-rest : every rest-right (run 0 256) ≡ true
+unfolding rest-right
+all-rest = refl
+
+pub rest-is : (x r : ℕ) → x < 256 → r < 5 → x * (65536 / 3 ^ r + 1) / 65536 ≡ x / 3 ^ r
+unfolding rest-right
+rest-is x r h l = eqb-true _ _ (every-from (λ r. eqb (x * (65536 / 3 ^ r + 1) / 65536) (x / 3 ^ r)) 5 (every-from rest-right 256 all-rest x h) r l)
+
 -- ---- tryte q of the trits
 
 pub at1-is : {b : List ℕ} {lay : Layout} → Laid b lay → lay .at1 ≡ 4

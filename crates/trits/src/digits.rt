@@ -2,7 +2,7 @@
 use crate::Ranks;
 use little::wide;
 ghost use mathlib.Core.Path.{_≡_};
-ghost use Prim.Native.Nat.{_*_, _/_, _%_, _^_, _≤_, _<_};
+ghost use Prim.Native.Nat.{_*_, _+_, _/_, _%_, _^_, _≤_, _<_};
 ghost use lib.ListN.{length, getD};
 ghost use Rattle.format.specs.Lists.{spread};
 ghost use Rattle.format.specs.Trits.{tryteCount, tryteTable};
@@ -262,18 +262,57 @@ pub fn tryte_table() -> [u8; 243]
     TABLE
 }
 
-// Trit `r` of tryte `x`.
-pub fn digit(x: usize, r: usize) -> usize
+// 3 to the power `r`.
+fn power(r: usize) -> usize
     requires { ⌜ r < 5 ⌝ }
-    ensures { λ d. ⌜ d ≡ x / 3 ^ r % 3 ⌝ }
+    ensures { λ w. ⌜ (w ≡ 3 ^ r) × (0 < w) ⌝ }
 {
     match r {
-        0 => x % 3,
-        1 => x / 3 % 3,
-        2 => x / 9 % 3,
-        3 => x / 27 % 3,
-        _ => x / 81 % 3,
+        0 => 1,
+        1 => 3,
+        2 => 9,
+        3 => 27,
+        _ => 81,
     }
+}
+
+// A little more than 65,536 / 3^r.
+fn inverse(r: usize) -> usize
+    requires { ⌜ r < 5 ⌝ }
+    ensures { λ m. ⌜ m ≡ 65536 / 3 ^ r + 1 ⌝ }
+{
+    match r {
+        0 => 65537,
+        1 => 21846,
+        2 => 7282,
+        3 => 2428,
+        _ => 810,
+    }
+}
+
+// Tryte `x` without its first `r` trits. By a product: a division by a power that changes from call to call is slow.
+fn tryte_rest(x: usize, r: usize) -> usize
+    requires { ⌜ (x < 256) × (r < 5) ⌝ }
+    ensures { λ d. ⌜ d ≡ x / 3 ^ r ⌝ }
+{
+    x * inverse(r) / 65536
+}
+
+// Trit `r` of tryte `x`.
+pub fn digit(x: usize, r: usize) -> usize
+    requires { ⌜ (x < 256) × (r < 5) ⌝ }
+    ensures { λ d. ⌜ d ≡ x / 3 ^ r % 3 ⌝ }
+{
+    tryte_rest(x, r) % 3
+}
+
+// The first `r` trits of tryte `x`, with zeros in place of the others.
+pub fn tryte_cut(x: usize, r: usize) -> usize
+    requires { ⌜ (x < 256) × (r < 5) ⌝ }
+    ensures { λ d. ⌜ d ≡ x % 3 ^ r ⌝ }
+{
+    let w = power(r);
+    x - w * tryte_rest(x, r)
 }
 
 // Trit `p` of trytes, before they are known to be an image's.
@@ -301,26 +340,12 @@ pub fn tryte_count(table: &[u8; 243], x: usize, t: usize) -> usize
     5 - e % 8 - e / 8
 }
 
-// 3 to the power `r`.
-pub fn power(r: usize) -> usize
-    requires { ⌜ r < 5 ⌝ }
-    ensures { λ w. ⌜ (w ≡ 3 ^ r) × (0 < w) ⌝ }
-{
-    match r {
-        0 => 1,
-        1 => 3,
-        2 => 9,
-        3 => 27,
-        _ => 81,
-    }
-}
-
-// The zeros and ones of the first `r` trits of tryte `x`: the tryte cut behind them has zeros in place of the others.
+// The zeros and ones of the first `r` trits of tryte `x`.
 pub fn tryte_front(table: &[u8; 243], x: usize, r: usize) -> Ranks
     requires { ⌜ (now table ≡ tryteTable) × (x < 243) × (r < 5) ⌝ }
     ensures { λ n. ⌜ n ≡ frontOf x r ⌝ }
 {
-    let cut = x % power(r);
+    let cut = tryte_cut(x, r);
     let e = wide(table[cut]);
     Ranks {
         zeros: e % 8 - (5 - r),

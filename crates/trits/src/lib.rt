@@ -3,7 +3,7 @@
 pub mod digits;
 pub mod search;
 
-use crate::digits::power;
+use crate::digits::digit;
 use crate::digits::tryte_count;
 use crate::digits::tryte_front;
 use format::FAR;
@@ -334,6 +334,5 @@ pub fn trit_at(image: &[u8], lay: Layout, p: usize) -> usize
 {
     let q = p / 5;
     let x = tryte(image, lay, q);
-    let w = power(p % 5);
-    x / w % 3
+    digit(x, p % 5)
 }

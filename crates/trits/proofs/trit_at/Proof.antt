@@ -1,8 +1,7 @@
 -- `trits::trit_at` meets its contract: tryte p / 5, trit p % 5. Assumes nothing.
-use Prim.Native.Nat.{ℕ, _+_, _*_, _/_, _%_}
+use Prim.Native.Nat.{_+_, _*_, _/_, _%_}
 use native.Mathlib.Omega.{arith}
-use mathlib.Core.Path.{_≡_, sym, ap, _∙_}
-use borrow.Author.Needs.{needs}
+use mathlib.Core.Path.{_≡_, sym, _∙_}
 use Rattle.trits.specs.Layout.{Laid}
 use Rattle.trits.proofs.Trytes.{digit-here}
 use Rattle.trits.proofs.Levels.{accepted}
@@ -17,7 +16,7 @@ returns c =
     let t = c .before in
     let p = t .before .before .args .p in
     let e : 5 * (p / 5) + p % 5 ≡ p = omega arith in
-    ap (λ (w : ℕ). t .tryte .result / w % 3) (c .power .ensures .0) ∙ rw e at (sym (digit-here (t .tryte .ensures) (p % 5) (omega arith) (omega arith)))
+    c .digit .ensures ∙ rw e at (sym (digit-here (t .tryte .ensures) (p % 5) (omega arith) (omega arith)))
 
 pub trit-at-spec : {M : Type 1} → statement M
-trit-at-spec = tie.close (tie.spec (λ c κs. (laid c, omega arith)) (λ c κs. search needs) (λ c. search needs) returns)
+trit-at-spec = tie.close (tie.spec (λ c κs. (laid c, omega arith)) (λ c κs. (omega (arith, c .tryte .ensures .low), omega arith)) returns)

@@ -18,14 +18,14 @@ abbrev start : tie.After-get4 → tie.Start
 start g = g .before .before .before .before
 
 -- the trit that was read is the place's
-trit-is : (c : tie.After-lone-trit) → let g = c .before .before in let s = start g in
-    (trits : List ℕ) → TritsIn trits (s .args .bs .now) → c .lone-trit .result ≡ getD trits (g .get4 .result) 0
-trit-is c trits T = c .lone-trit .ensures .0 ∙ trit-in T (c .before .before .get4 .result)
+trit-is : (c : tie.After-trit) → let g = c .before .before in let s = start g in
+    (trits : List ℕ) → TritsIn trits (s .args .bs .now) → c .trit .result ≡ getD trits (g .get4 .result) 0
+trit-is c trits T = c .trit .ensures .0 ∙ trit-in T (c .before .before .get4 .result)
 
 -- past both tests a 2 stands there
 here : (c : tie.Else2) → let g = c .before .before .before in let s = start g in
     (trits : List ℕ) → TritsIn trits (s .args .bs .now) → length trits ≡ s .args .l → (g .get4 .result < length trits) × (getD trits (g .get4 .result) 0 ≡ 2)
-here c trits T n = (omega arith, omega (arith, trit-is (c .before) trits T, c .before .lone-trit .ensures .1))
+here c trits T n = (omega arith, omega (arith, trit-is (c .before) trits T, c .before .trit .ensures .1))
 
 -- the twos before it are fewer than the shadows
 room : (c : tie.After-twos-before) → let s = start (c .before .before .before .before) in 2 * c .twos-before .result + 2 ≤ length (s .args .hs .now)

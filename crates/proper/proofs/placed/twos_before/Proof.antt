@@ -1,5 +1,5 @@
 -- `placed::twos_before` meets its contract: whole trytes, and part of one. Assumes nothing.
-use Prim.Native.Nat.{ℕ, _+_, _*_, _/_, _%_, _<_}
+use Prim.Native.Nat.{ℕ, _+_, _*_, _/_, _%_, _^_, _<_}
 use native.Mathlib.Omega.{arith}
 use native.Mathlib.Nat.{mod-le}
 use mathlib.Core.Path.{_≡_, ap, _∙_}
@@ -30,7 +30,7 @@ summed c trits T n l W =
     omega (
       arith,
       whole .twos-whole .ensures trits T n W,
-      c .two-count .ensures .0 ∙ ap (λ (k : ℕ). tryteCount 2 (w .wide .result % k) 5) (c .before .power .ensures .0) ∙ front-twos (w .wide .result) (x .p % 5) (here w trits T (omega arith) .low) (omega arith),
+      c .two-count .ensures .0 ∙ ap (λ (k : ℕ). tryteCount 2 k 5) (c .before .tryte-cut .ensures) ∙ front-twos (w .wide .result) (x .p % 5) (here w trits T (omega arith) .low) (omega arith),
       rw e at (rank-more (here w trits T (omega arith)) 2 (x .p % 5) (omega arith) (omega arith)),
     )
 
@@ -39,8 +39,8 @@ twos-before-spec =
     tie.close (tie.spec
     (λ c κs. let p = c .before .pre in let t = p .2 in (p .0, p .1, (t .0, t .1, t .2, t .3, omega (arith, t .4))))
     (λ c. let s = c .before .before .before in let t = s .pre .2 in tryte-inside (t .1) (s .args .p / 5) (omega (arith, t .2, t .4)))
-    (λ c κs. search needs) (λ c κs. search needs) (λ c. search needs)
+    (λ c κs. search needs) (λ c κs. (c .wide .ensures .1, omega arith))
     (λ c κs. let w = c .before in let p = w .before .before .before .before .pre in let t = p .2 in
-    (p .0, omega (arith, mod-le (w .wide .result) (c .power .result), here w (t .0) (t .1) (omega (arith, t .2, t .4)) .low)))
+    (p .0, omega (arith, c .tryte-cut .ensures, mod-le (w .wide .result) (3 ^ (w .before .before .before .before .args .p % 5)), here w (t .0) (t .1) (omega (arith, t .2, t .4)) .low)))
     (λ c. let s = c .before .before .before .before .before .before in let t = s .pre .2 in omega (arith, summed c (t .0) (t .1) (t .2) (t .4) (t .3), few-twos (t .1) (s .args .p)))
     (λ c trits T n W. let s = c .before .before .before .before .before .before in summed c trits T n (s .pre .2 .4) W))

@@ -18,4 +18,4 @@ returns c =
     )
 
 pub trit-spec : {M : Type 1} → statement M
-trit-spec = tie.close (tie.spec (λ c. search needs) (λ c κs. search needs) (λ c κs. search needs) returns)
+trit-spec = tie.close (tie.spec (λ c. search needs) (λ c κs. search needs) (λ c κs. (c .wide .ensures .1, omega arith)) returns)
