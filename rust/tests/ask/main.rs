@@ -4,6 +4,7 @@
 mod damaged;
 mod edges;
 mod faults;
+mod lent;
 mod questions;
 mod run;
 mod sound;
