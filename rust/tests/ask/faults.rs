@@ -125,7 +125,7 @@ impl Cases {
             for full in 0..5 {
                 let tally = self.full_tally(full, q);
                 let first = self.first([
-                    fault(len % 3 > 0, 41),
+                    fault(!len.is_multiple_of(3), 41),
                     fault(short > 0, 42),
                     fault(full > 0 && q > 0, 43),
                     wrong,

@@ -60,9 +60,10 @@ impl Cases {
     fn broken_trytes(&mut self, image: &Made) {
         let l = image.trits.len();
         let end = image.end(0);
-        for padding in l % 5..5 * usize::from(l % 5 > 0) {
+        for place in l..l.next_multiple_of(5) {
             for trit in 1..3 {
-                let last = u64::from(image.bytes[end - 1]) + trit * 3u64.pow(padding as u32);
+                let more = trit * 3u64.pow(place as u32 % 5);
+                let last = u64::from(image.bytes[end - 1]) + more;
                 self.refused(&with(&image.bytes, end - 1, 1, last), 23);
             }
         }
