@@ -70,60 +70,61 @@ fn proper_trits(trytes: &[u8], l: usize) -> Option<Vec<u8>> {
     Some(trits)
 }
 
-/// Checks an image and takes it apart; refusals 21 to 26.
-pub fn open(image: &[u8]) -> Result<Opened, u32> {
-    let mut rest = image;
-
-    let l = take_count(&mut rest)?;
+/// Takes section 1's count and trits; refusals 21, 22 for L, and 23.
+fn take_trits(rest: &mut &[u8]) -> Result<Vec<u8>, u32> {
+    let l = take_count(rest)?;
     if l > MOST_TRITS {
         return Err(22);
     }
     if l == 0 {
         return Err(23);
     }
-    let trits = proper_trits(take(&mut rest, l.div_ceil(5))?, l).ok_or(23u32)?;
-    let places = [0, 1, 2].map(|t| places(&trits, t));
-    let n = places[1].len();
-    let c = places[0][0];
-    let m = l - n - c - 1;
-    if n > MOST_NODES || m > MOST_EDGES {
-        return Err(22);
-    }
+    proper_trits(take(rest, l.div_ceil(5))?, l).ok_or(23)
+}
 
-    let k = take_count(&mut rest)?;
-    if k != places[2].len() {
+/// Takes section 2's count and H, given the places of each trit; refusals 21
+/// and 24.
+fn take_shadows(rest: &mut &[u8], places: &[Vec<usize>; 3]) -> Result<Vec<usize>, u32> {
+    let [_, ones, twos] = places;
+    let k = take_count(rest)?;
+    if k != twos.len() {
         return Err(24);
     }
     let mut shadows = Vec::new();
-    for entry in take(&mut rest, 2 * k)?.chunks(2) {
+    for (entry, &place) in take(rest, 2 * k)?.chunks(2).zip(twos) {
         let shadow = usize::from(entry[0]) + 256 * usize::from(entry[1]);
-        let place = places[2][shadows.len()];
-        let seen = places[1].partition_point(|&one| one < place);
+        let seen = ones.partition_point(|&one| one < place);
         if shadow < 1 || shadow > seen {
             return Err(24);
         }
         shadows.push(shadow);
     }
+    Ok(shadows)
+}
 
-    for section in &sections(&trits, &shadows)[2..] {
-        if take_count(&mut rest)? != section.count {
+/// Takes sections 3 to 9, which must be what sections 1 and 2 give; refusals
+/// 21 and 25.
+fn take_given(rest: &mut &[u8], trits: &[u8], shadows: &[usize]) -> Result<(), u32> {
+    for section in &sections(trits, shadows)[2..] {
+        if take_count(rest)? != section.count {
             return Err(25);
         }
-        if take(&mut rest, section.contents.len())? != section.contents {
+        if take(rest, section.contents.len())? != section.contents {
             return Err(25);
         }
     }
-    if !rest.is_empty() {
-        return Err(26);
-    }
+    Ok(())
+}
 
-    // The edges, in order of place. User 0 is the super-root.
+/// The operands and the users of each of n nodes, from the edges in order of
+/// place. The super-root, which names the roots, is no user.
+fn edges(trits: &[u8], shadows: &[usize], n: usize) -> [Vec<Vec<Neighbour>>; 2] {
     let mut operands = vec![Vec::new(); n];
     let mut users = vec![Vec::new(); n];
-    let mut user = 0;
+    let mut user = 0; // the super-root
     let mut ones = 0;
     let mut left = shadows.iter();
-    for &trit in &trits {
+    for &trit in trits {
         let operand = match trit {
             0 => {
                 user += 1;
@@ -140,6 +141,26 @@ pub fn open(image: &[u8]) -> Result<Opened, u32> {
             users[operand - 1].push((user, u32::from(trit)));
         }
     }
+    [operands, users]
+}
+
+/// Checks an image and takes it apart; refusals 21 to 26.
+pub fn open(image: &[u8]) -> Result<Opened, u32> {
+    let mut rest = image;
+    let trits = take_trits(&mut rest)?;
+    let places = [0, 1, 2].map(|t| places(&trits, t));
+    let n = places[1].len();
+    let c = places[0][0];
+    let m = trits.len() - n - c - 1;
+    if n > MOST_NODES || m > MOST_EDGES {
+        return Err(22);
+    }
+    let shadows = take_shadows(&mut rest, &places)?;
+    take_given(&mut rest, &trits, &shadows)?;
+    if !rest.is_empty() {
+        return Err(26);
+    }
+    let [operands, users] = edges(&trits, &shadows, n);
     Ok(Opened {
         trits,
         shadows,

@@ -5,6 +5,7 @@ use crate::faults::damaged;
 use crate::questions::{every, last_a, last_b, open, questions, Question};
 use crate::run::Cases;
 use glouds::make::{self, Xorshift};
+use glouds::plain::Opened;
 
 /// Small images with all faults and damage.
 pub fn small(cases: &mut Cases) {
@@ -50,6 +51,20 @@ pub fn middle(cases: &mut Cases) {
     }
 }
 
+/// Questions at the first and last numbers of each kind, and next after these.
+fn ends(opened: &Opened) -> Vec<Question> {
+    let mut list = Vec::new();
+    for kind in 0..7 {
+        let last = last_a(opened, kind);
+        for a in (0..4).chain(last.saturating_sub(4)..=last + 1) {
+            let most = last_b(opened, kind, a);
+            list.extend((0..4).map(|b| [kind, a, b]));
+            list.extend((most.saturating_sub(4)..=most + 1).map(|b| [kind, a, b]));
+        }
+    }
+    list
+}
+
 /// The largest of many shapes: every edge, and random questions.
 pub fn large(cases: &mut Cases) {
     let rng = &mut Xorshift::new(127);
@@ -57,18 +72,8 @@ pub fn large(cases: &mut Cases) {
         let image = cases.graph(&graph);
         let opened = open(&image);
         cases.batches(&image, &mut questions(&opened, 30_000, rng));
-        // The last places and nodes, and the line next after each.
-        let mut ends = Vec::new();
-        for kind in 0..7 {
-            let last = last_a(&opened, kind);
-            for a in (0..4).chain(last.saturating_sub(4)..=last + 1) {
-                let most = last_b(&opened, kind, a);
-                ends.extend((0..4).map(|b| [kind, a, b]));
-                ends.extend((most.saturating_sub(4)..=most + 1).map(|b| [kind, a, b]));
-            }
-        }
         let tally = cases.tally();
-        assert_eq!(cases.ask(&image, &ends, tally).refusal, 0);
+        assert_eq!(cases.ask(&image, &ends(&opened), tally).refusal, 0);
         for (bytes, refusal) in damaged(&image) {
             assert_eq!(cases.maybe(&bytes, bytes.len()), refusal);
             assert_eq!(cases.none(&bytes), refusal);

@@ -30,52 +30,52 @@ impl Cases {
         assert_eq!(tally, whole.tally);
     }
 
-    /// All nodes' counts of operands and of uses: both sum to m. Then all the
-    /// operands and users that these count: the same edges, the operands as in
-    /// `graph`, which is numbered in level order.
-    fn edges(&mut self, image: &[u8], graph: &Graph) {
+    /// All operands by kind 3 and 4, or all users by kind 5 and 6: node,
+    /// neighbour and sort. The nodes' counts sum to m.
+    fn listed(&mut self, image: &[u8], graph: &Graph, kind: u32) -> Vec<[u32; 3]> {
         let n = graph.nodes() as u32;
-        let mut listed = Vec::new();
-        for kind in [3, 5] {
-            let list: Vec<Question> = (1..=n).map(|node| [kind, node, 0]).collect();
-            let tally = self.tally();
-            let given = self.ask(image, &list, tally);
-            assert_eq!(given.tally.refused, tally.refused);
-            let counts: Vec<u32> = (0..list.len())
-                .map(|at| given.answers[3 * at + 1])
-                .collect();
-            let sum: usize = counts.iter().map(|&count| count as usize).sum();
-            assert_eq!(sum, graph.edges());
+        let list: Vec<Question> = (1..=n).map(|node| [kind, node, 0]).collect();
+        let tally = self.tally();
+        let given = self.ask(image, &list, tally);
+        assert_eq!(given.tally.refused, tally.refused);
+        let counts: Vec<u32> = (0..list.len())
+            .map(|at| given.answers[3 * at + 1])
+            .collect();
+        let sum: usize = counts.iter().map(|&count| count as usize).sum();
+        assert_eq!(sum, graph.edges());
 
-            let mut list: Vec<Question> = Vec::new();
-            for (node, &count) in (1..).zip(&counts) {
-                list.extend((1..=count).map(|b| [kind + 1, node, b]));
-            }
-            let given = self.ask(image, &list, tally);
-            assert_eq!(given.tally.refused, tally.refused);
-            let of = list.iter().map(|question| question[1]);
-            let edges = of.zip(given.answers.chunks(3));
-            listed.push(
-                edges
-                    .map(|(node, answer)| (node, answer[1], answer[2]))
-                    .collect::<Vec<_>>(),
-            );
+        let mut list: Vec<Question> = Vec::new();
+        for (node, &count) in (1..).zip(&counts) {
+            list.extend((1..=count).map(|b| [kind + 1, node, b]));
         }
-        let [operands, mut users] = <[Vec<_>; 2]>::try_from(listed).expect("two lists");
+        let given = self.ask(image, &list, tally);
+        assert_eq!(given.tally.refused, tally.refused);
+        let answers = given.answers.chunks(3);
+        list.iter()
+            .zip(answers)
+            .map(|(question, answer)| [question[1], answer[1], answer[2]])
+            .collect()
+    }
+
+    /// All operands and all users: the same edges, the operands as in `graph`,
+    /// which is numbered in level order.
+    fn edges(&mut self, image: &[u8], graph: &Graph) {
+        let operands = self.listed(image, graph, 3);
+        let mut users = self.listed(image, graph, 5);
         let due = graph.operands.iter().enumerate().flat_map(|(index, list)| {
             let pair = move |&operand| (index as u32 + 1, operand as u32);
             list.iter().map(pair)
         });
-        assert!(due.eq(operands.iter().map(|&(node, other, _)| (node, other))));
+        assert!(due.eq(operands.iter().map(|&[node, other, _]| (node, other))));
         // One real use of each node that is no root, and it comes first.
         let c = graph.roots.len() as u32;
         let mut before = 0;
-        for &(node, _, sort) in &users {
+        for &[node, _, sort] in &users {
             assert_eq!(sort == 1, node > c && node != before, "node {node}");
             before = node;
         }
         for edge in &mut users {
-            *edge = (edge.1, edge.0, edge.2);
+            edge.swap(0, 1);
         }
         let sorted = |mut list: Vec<_>| {
             list.sort_unstable();

@@ -106,48 +106,64 @@ impl Cases {
                 for extra in 0..3 {
                     let mut words = list.concat();
                     words.extend((0..extra).map(|_| self.rng.below(7) as u32));
-                    let len = words.len();
-                    for short in [0, 1, 2, 3, len] {
-                        if short > len {
-                            continue;
-                        }
-                        for full in 0..5 {
-                            let mut tally = self.tally();
-                            let over = u32::MAX - self.rng.below(q.max(1)) as u32;
-                            match full {
-                                0 => {}
-                                1 => tally.asked = over,
-                                2 => tally.answered = over,
-                                3 => tally.refused = over,
-                                _ => {
-                                    tally = Tally {
-                                        asked: over,
-                                        answered: over,
-                                        refused: over,
-                                    }
-                                }
-                            }
-                            let fault = |is: bool, number| if is { number } else { 0 };
-                            let all = [
-                                fault(extra > 0, 41),
-                                fault(short > 0, 42),
-                                fault(full > 0 && q > 0, 43),
-                                *wrong,
-                            ];
-                            let mut numbers = all.into_iter().filter(|&number| number > 0);
-                            let first = numbers.next().unwrap_or(0);
-                            if numbers.next().is_some() {
-                                self.together[first as usize] += 1;
-                            }
-                            let more = if short == 0 { self.rng.below(4) } else { 0 };
-                            let room = len - short + more;
-                            let given = self.part(bytes, bytes.len(), &words, room, tally);
-                            assert_eq!(given.refusal, first);
-                        }
-                    }
+                    self.rooms_and_tallies(bytes, *wrong, &words);
                 }
             }
         }
+    }
+
+    /// Asks an image with the refusal `wrong`, or 0, with room enough and too
+    /// little, and with tallies that are full and that are not.
+    fn rooms_and_tallies(&mut self, bytes: &[u8], wrong: u32, words: &[u32]) {
+        let len = words.len();
+        let q = len / 3;
+        let fault = |is: bool, number| if is { number } else { 0 };
+        for short in [0, 1, 2, 3, len] {
+            if short > len {
+                continue;
+            }
+            for full in 0..5 {
+                let tally = self.full_tally(full, q);
+                let first = self.first([
+                    fault(!len.is_multiple_of(3), 41),
+                    fault(short > 0, 42),
+                    fault(full > 0 && q > 0, 43),
+                    wrong,
+                ]);
+                let more = if short == 0 { self.rng.below(4) } else { 0 };
+                let room = len - short + more;
+                let given = self.part(bytes, bytes.len(), words, room, tally);
+                assert_eq!(given.refusal, first);
+            }
+        }
+    }
+
+    /// A tally that q questions would take over the line: in no field for 0,
+    /// in one for 1 to 3, in all for 4.
+    fn full_tally(&mut self, full: usize, q: usize) -> Tally {
+        let mut tally = self.tally();
+        let over = u32::MAX - self.rng.below(q.max(1)) as u32;
+        if full == 1 || full == 4 {
+            tally.asked = over;
+        }
+        if full == 2 || full == 4 {
+            tally.answered = over;
+        }
+        if full == 3 || full == 4 {
+            tally.refused = over;
+        }
+        tally
+    }
+
+    /// The first of the faults that are there, 0 if there is none. Counts it
+    /// if there are more.
+    fn first(&mut self, faults: [u32; 4]) -> u32 {
+        let mut numbers = faults.into_iter().filter(|&number| number > 0);
+        let first = numbers.next().unwrap_or(0);
+        if numbers.next().is_some() {
+            self.together[first as usize] += 1;
+        }
+        first
     }
 
     /// An image that may be refused, asked a few questions.

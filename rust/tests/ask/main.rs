@@ -4,6 +4,7 @@
 mod damaged;
 mod edges;
 mod faults;
+mod lent;
 mod questions;
 mod run;
 mod sound;
@@ -23,6 +24,13 @@ fn beside_the_plain_answerer() {
     damaged::random_bytes(&mut cases);
     damaged::large(&mut cases);
 
+    count_batches(&cases);
+    count_answers(&cases);
+}
+
+/// Shows how many batches ran and how many got each refusal. No other number
+/// was given.
+fn count_batches(cases: &Cases) {
     let numbers = || (41..=43).chain(21..=26);
     let show = |counts: &[usize]| -> String {
         numbers()
@@ -41,6 +49,15 @@ fn beside_the_plain_answerer() {
         "ask: more than one fault, by the first:{}",
         show(&cases.together)
     );
+    assert!(cases.graphs > 3_000 && cases.outcomes[0] > 30_000);
+    assert!(numbers().all(|number| cases.outcomes[number] > 100));
+    assert!((41..=43).all(|number| cases.together[number] > 100));
+    let known = cases.outcomes[0] + numbers().map(|at| cases.outcomes[at]).sum::<usize>();
+    assert_eq!(known, cases.run);
+}
+
+/// Shows the answers to each kind of question by code, and those of each sort.
+fn count_answers(cases: &Cases) {
     for (kind, [answered, unknown, first, second]) in cases.answers.into_iter().enumerate() {
         if kind < 7 {
             println!("ask: kind {kind}: answered {answered}, 32:{first} 33:{second}");
@@ -54,9 +71,4 @@ fn beside_the_plain_answerer() {
     }
     println!("ask: real {}, shadow {}", cases.sorts[1], cases.sorts[2]);
     assert!(cases.sorts[1] > 100_000 && cases.sorts[2] > 100_000);
-    assert!(cases.graphs > 3_000 && cases.outcomes[0] > 30_000);
-    assert!(numbers().all(|number| cases.outcomes[number] > 100));
-    assert!((41..=43).all(|number| cases.together[number] > 100));
-    let known = cases.outcomes[0] + numbers().map(|at| cases.outcomes[at]).sum::<usize>();
-    assert_eq!(known, cases.run);
 }

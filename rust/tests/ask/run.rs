@@ -1,8 +1,9 @@
 //! One batch asked both ways, with guards around all that is lent.
 
+use crate::lent::{Batch, Memory};
 use crate::questions::Question;
-use glouds::make::{self, Xorshift};
-use glouds::{plain, Tally};
+use glouds::make::Xorshift;
+use glouds::Tally;
 
 /// What a batch gives: its number, and what was lent, as it is afterwards.
 pub struct Given {
@@ -51,101 +52,54 @@ impl Cases {
         tally: Tally,
     ) -> Given {
         self.run += 1;
-        let rng = &mut self.rng;
-        let guard = 1 + self.run % 8;
-        let bytes_before = make::guarded(bytes, guard, rng);
-        let memory = bytes_before.clone();
-        // Small words, as of more questions, or any.
-        let small = rng.below(2) == 0;
-        let mut ends = |_| rng.bits() as u32 >> if small { 29 } else { 0 };
-        let front: Vec<u32> = (0..guard).map(&mut ends).collect();
-        let back: Vec<u32> = (0..guard).map(&mut ends).collect();
-        let words_before = [&front, words, &back].concat();
-        let asked = words_before.clone();
-        let mut answers: Vec<u32> = make::filling(room + 2 * guard, rng)
-            .map(|word| word as u32)
-            .collect();
-        let answers_before = answers.clone();
-        let mut junk = || Tally {
-            asked: rng.bits() as u32,
-            answered: rng.bits() as u32,
-            refused: rng.bits() as u32,
-        };
-        let mut tallies = [junk(), tally, junk()];
-
-        let mut answers_after = answers.clone();
-        let mut tallies_after = tallies;
-        let refusal = plain::batch(
-            &bytes[..len],
+        let batch = Batch {
+            bytes,
+            len,
             words,
-            &mut answers_after[guard..guard + room],
-            &mut tallies_after[1],
-        );
+            room,
+            tally,
+        };
+        let guard = 1 + self.run % 8;
+        let mut memory = batch.memory(guard, &mut self.rng);
+
+        let mut due = memory.clone();
+        let refusal = batch.ask_plain(&mut due);
         self.outcomes[refusal as usize] += 1;
-        let q = words.len() / 3;
-        let mut answered = 0;
         if refusal == 0 {
-            let given = answers_after[guard..guard + words.len()].chunks(3);
-            for (question, answer) in words.chunks(3).zip(given) {
-                let code = (answer[0] as usize).saturating_sub(30);
-                self.answers[question[0].min(7) as usize][code] += 1;
-                self.sorts[answer[2] as usize] += 1;
-                answered += usize::from(code == 0);
-            }
-            assert!(answers_after[guard + words.len()..] == answers_before[guard + words.len()..]);
-            let more = |field: u32, count: usize| field + count as u32;
-            assert_eq!(tallies_after[1].asked, more(tally.asked, q));
-            assert_eq!(tallies_after[1].answered, more(tally.answered, answered));
-            assert_eq!(tallies_after[1].refused, more(tally.refused, q - answered));
+            self.ran(words, &memory, &due);
         } else {
-            assert!(answers_after == answers_before && tallies_after[1] == tally);
+            assert!(due.answers == memory.answers && due.tallies[1] == tally);
         }
 
-        let result = glouds::ask(
-            &memory[guard..guard + len],
-            &asked[guard..guard + words.len()],
-            &mut answers[guard..guard + room],
-            &mut tallies[1],
-        );
-        let case = || {
-            let first = &words[..words.len().min(30)];
-            format!(
-                "{} words {first:?}, room {room}, {tally:?}, {}",
-                words.len(),
-                make::shown(bytes, len)
-            )
-        };
-        assert_eq!(result, refusal, "{}", case());
-        if answers != answers_after {
-            let other = |at: &usize| answers[*at] != answers_after[*at];
-            let at = (0..answers.len()).find(other).expect("a difference");
-            let from = at.saturating_sub(guard) / 3 * 3;
-            let part = |list: &[u32]| list[from + guard..].iter().copied().take(3).collect();
-            let (is, due): (Vec<u32>, Vec<u32>) = (part(&answers), part(&answers_after));
-            panic!(
-                "answers at word {at} less {guard}: {:?} gives {is:?}, not {due:?}: {}",
-                words.get(from..from + 3),
-                case()
-            );
-        }
-        assert_eq!(tallies, tallies_after, "{}", case());
-        // Shared slices: black_box, or the compiler may take them as unchanged.
-        assert!(
-            std::hint::black_box(&memory) == &bytes_before,
-            "image changed: {}",
-            case()
-        );
-        assert!(
-            std::hint::black_box(&asked) == &words_before,
-            "questions changed: {}",
-            case()
-        );
-        let [_, tally, _] = tallies;
+        let result = batch.ask_library(&mut memory);
+        assert_eq!(result, refusal, "{}", batch.shown());
+        batch.compare(&memory, &due);
         Given {
             refusal,
-            answers: answers[guard..guard + room].to_vec(),
-            tally,
+            answers: memory.answers[guard..guard + room].to_vec(),
+            tally: memory.tallies[1],
         }
+    }
+
+    /// Counts the answers of a batch that ran. It must have left the words
+    /// past its answers and added itself to the tally.
+    fn ran(&mut self, words: &[u32], before: &Memory, after: &Memory) {
+        let end = after.guard + words.len();
+        let answers = after.answers[after.guard..end].chunks(3);
+        let mut answered = 0;
+        for (question, answer) in words.chunks(3).zip(answers) {
+            let code = (answer[0] as usize).saturating_sub(30);
+            self.answers[question[0].min(7) as usize][code] += 1;
+            self.sorts[answer[2] as usize] += 1;
+            answered += usize::from(code == 0);
+        }
+        assert!(after.answers[end..] == before.answers[end..]);
+        let (old, new) = (before.tallies[1], after.tallies[1]);
+        let q = words.len() / 3;
+        let more = |field: u32, count: usize| field + count as u32;
+        assert_eq!(new.asked, more(old.asked, q));
+        assert_eq!(new.answered, more(old.answered, answered));
+        assert_eq!(new.refused, more(old.refused, q - answered));
     }
 
     /// Asks a whole image, with just enough room or more.

@@ -28,10 +28,8 @@ fn list(image: &[u8], kind: u32, node: u32) -> Vec<(u32, u32)> {
     (1..=count).map(neighbour).collect()
 }
 
-/// Document 01's own cases, without the plain answerer.
-#[test]
-fn cases_of_the_document() {
-    let (_, drawn) = owned::pack(&DRAWN).unwrap();
+/// The operands and users of each node of the drawn graph.
+fn drawn_edges(drawn: &[u8]) {
     let operands: [&[(u32, u32)]; 8] = [
         &[(2, 1), (3, 1)],
         &[(4, 1)],
@@ -53,12 +51,16 @@ fn cases_of_the_document() {
         &[(5, 1), (6, 2)],
     ];
     for node in 1..=8 {
-        assert_eq!(list(&drawn, 3, node), operands[node as usize - 1]);
-        assert_eq!(list(&drawn, 5, node), users[node as usize - 1]);
+        assert_eq!(list(drawn, 3, node), operands[node as usize - 1]);
+        assert_eq!(list(drawn, 5, node), users[node as usize - 1]);
     }
+}
+
+/// The trits of the drawn graph, and questions on both sides of each line.
+fn drawn_questions(drawn: &[u8]) {
     for (place, trit) in "101101021011021020020".bytes().enumerate() {
         let due = [0, u32::from(trit - b'0'), 0];
-        assert_eq!(one(&drawn, [0, place as u32, 0]), due);
+        assert_eq!(one(drawn, [0, place as u32, 0]), due);
     }
     for (question, answer) in [
         ([1, 1, 11], [0, 6, 0]),
@@ -80,8 +82,12 @@ fn cases_of_the_document() {
         ([7, 9, 9], [31, 0, 0]),
         ([u32::MAX, 0, 0], [31, 0, 0]),
     ] {
-        assert_eq!(one(&drawn, question), answer, "{question:?}");
+        assert_eq!(one(drawn, question), answer, "{question:?}");
     }
+}
+
+/// A node that uses itself, a value times itself, and the empty graph.
+fn small_graphs() {
     let (_, itself) = owned::pack(&[1, 1, 1, 1, 1]).unwrap();
     assert_eq!(list(&itself, 5, 1), [(1, 2)]);
     let (_, squared) = owned::pack(&[2, 2, 2, 2, 0, 1, 1]).unwrap();
@@ -92,6 +98,15 @@ fn cases_of_the_document() {
     assert_eq!(one(&empty, [1, 0, 1]), [0, 1, 0]);
     assert_eq!(one(&empty, [3, 0, 0]), [32, 0, 0]);
     assert_eq!(one(&empty, [3, 1, 0]), [32, 0, 0]);
+}
+
+/// Document 01's own cases, without the plain answerer.
+#[test]
+fn cases_of_the_document() {
+    let (_, drawn) = owned::pack(&DRAWN).unwrap();
+    drawn_edges(&drawn);
+    drawn_questions(&drawn);
+    small_graphs();
 }
 
 /// Rust's empty slices: their pointers point at nothing.

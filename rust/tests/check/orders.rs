@@ -5,58 +5,73 @@ use crate::made::{Made, WIDTHS};
 use crate::run::{some, Cases};
 use glouds::make::{number, put, with};
 
+/// Images with a section's entries shifted by one, either way, and with all of
+/// its numbers one more and one less.
+fn shifted(image: &Made, index: usize) -> Vec<Vec<u8>> {
+    let width = WIDTHS[index];
+    let (start, end) = (image.starts()[index], image.end(index));
+    if start == end {
+        return Vec::new();
+    }
+    let mut left = image.bytes.clone();
+    left[start..end].rotate_left(width);
+    let mut right = image.bytes.clone();
+    right.copy_within(start..end - width, start + width);
+    let mut all = vec![left, right];
+    for by in [1, u64::MAX] {
+        let mut bytes = image.bytes.clone();
+        for at in (start..end).step_by(width) {
+            let new = number(&image.bytes, at, width).wrapping_add(by);
+            put(&mut bytes, at, width, new);
+        }
+        all.push(bytes);
+    }
+    all
+}
+
 impl Cases {
     /// Entries exchanged, repeated, shifted and made up in sections 4 to 9.
     pub fn orders(&mut self, image: &Made) {
         for (index, start) in image.starts().into_iter().enumerate().skip(3) {
-            let width = WIDTHS[index];
-            let numbers = image.sections[index].contents.len() / width;
-            let entry_of = |number: usize| start + width * number;
-            let mut all = Vec::new();
-            // Each number copied to and from, and exchanged with, the next two
-            // and two others of any group; set to some that may be places.
-            for one in some(numbers, &mut self.rng) {
-                let any = [self.rng.below(numbers), self.rng.below(numbers)];
-                for other in [one + 1, one + 2, any[0], any[1]] {
-                    if other < numbers {
-                        let (at, from) = (entry_of(one), entry_of(other));
-                        let old = number(&image.bytes, at, width);
-                        let new = number(&image.bytes, from, width);
-                        let copied = with(&image.bytes, at, width, new);
-                        all.push(with(&copied, from, width, old));
-                        all.push(copied);
-                        all.push(with(&image.bytes, from, width, old));
-                    }
-                }
-                let l = image.trits.len();
-                for new in [0, 1, l - 1, l, self.rng.below(l), usize::MAX] {
-                    all.push(with(&image.bytes, entry_of(one), width, new as u64));
-                }
-            }
-            // Shifted by one entry, either way; all one more, all one less.
+            let mut all = self.exchanged(image, index);
+            all.extend(shifted(image, index));
             let contents = &image.sections[index].contents;
             let end = image.end(index);
-            if numbers > 0 {
-                let mut bytes = image.bytes.clone();
-                bytes[start..end].rotate_left(width);
-                all.push(bytes);
-                let mut bytes = image.bytes.clone();
-                bytes.copy_within(start..end - width, start + width);
-                all.push(bytes);
-                for by in [1, u64::MAX] {
-                    let mut bytes = image.bytes.clone();
-                    for at in (start..end).step_by(width) {
-                        let new = number(&image.bytes, at, width).wrapping_add(by);
-                        put(&mut bytes, at, width, new);
-                    }
-                    all.push(bytes);
-                }
-            }
             for bytes in all {
                 let same = bytes[start..end] == contents[..];
                 self.refused(&bytes, if same { 0 } else { 25 });
             }
         }
+    }
+
+    /// Images with each number of a section copied to and from, and exchanged
+    /// with, the next two and two others of any group; and set to some that may
+    /// be places.
+    fn exchanged(&mut self, image: &Made, index: usize) -> Vec<Vec<u8>> {
+        let width = WIDTHS[index];
+        let start = image.starts()[index];
+        let numbers = image.sections[index].contents.len() / width;
+        let entry_of = |number: usize| start + width * number;
+        let mut all = Vec::new();
+        for one in some(numbers, &mut self.rng) {
+            let any = [self.rng.below(numbers), self.rng.below(numbers)];
+            for other in [one + 1, one + 2, any[0], any[1]] {
+                if other < numbers {
+                    let (at, from) = (entry_of(one), entry_of(other));
+                    let old = number(&image.bytes, at, width);
+                    let new = number(&image.bytes, from, width);
+                    let copied = with(&image.bytes, at, width, new);
+                    all.push(with(&copied, from, width, old));
+                    all.push(copied);
+                    all.push(with(&image.bytes, from, width, old));
+                }
+            }
+            let l = image.trits.len();
+            for new in [0, 1, l - 1, l, self.rng.below(l), usize::MAX] {
+                all.push(with(&image.bytes, entry_of(one), width, new as u64));
+            }
+        }
+        all
     }
 
     /// Samples that are wrong one by one but give the right ranks: one less in a

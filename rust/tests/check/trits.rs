@@ -2,42 +2,49 @@
 
 use crate::made::{inserted, made, Made};
 use crate::run::{some, Cases};
-use glouds::make::with;
+use glouds::make::{with, Xorshift};
 use glouds::plain::{count, places, MOST_TRITS};
 
+/// Trits that each break one rule of section 1, and shadows for them. The
+/// image must have a node.
+fn broken(image: &Made, rng: &mut Xorshift) -> Vec<(Vec<u8>, Vec<usize>)> {
+    let (trits, shadows) = (&image.trits, &image.shadows);
+    let (zeros, ones) = (places(trits, 0), places(trits, 1));
+    let (l, n) = (trits.len(), ones.len());
+    let mut broken = Vec::new();
+    // A 2 among the roots: at the front, in the middle, at the end.
+    for at in [0, zeros[0] / 2, zeros[0]] {
+        broken.push((inserted(trits, at, 2), inserted(shadows, 0, 1)));
+    }
+    // The last trit a 2.
+    for twos in 1..4 {
+        let longer = [&trits[..], &vec![2; twos]].concat();
+        broken.push((longer, [&shadows[..], &vec![1; twos]].concat()));
+    }
+    // A zero or a one too many or too few, at both ends.
+    for (at, trit) in [(l, 0), (0, 1), (l, 1), (l - 1, 1), (l - 1, 0)] {
+        broken.push((inserted(trits, at, trit), shadows.clone()));
+    }
+    let nodes_left = shadows.iter().map(|&shadow| shadow.min(n - 1));
+    broken.push((trits[1..].to_vec(), nodes_left.collect()));
+    broken.push((trits[..l - 1].to_vec(), shadows.clone()));
+    // A zero with one 1 too few before it: the others come just after it.
+    for index in some(n, rng) {
+        let mut moved = trits.clone();
+        moved[ones[index]..=zeros[index]].sort_by_key(|&trit| trit == 1);
+        broken.push((moved, shadows.clone()));
+    }
+    broken
+}
+
 impl Cases {
-    /// Trits that break one rule of section 1, all else as they give it.
+    /// Trits and trytes that break one rule of section 1, all else as the trits
+    /// give it.
     pub fn rules(&mut self, image: &Made) {
-        let (trits, shadows) = (&image.trits, &image.shadows);
-        let (l, n) = (trits.len(), count(trits, 1));
-        if n == 0 {
+        if count(&image.trits, 1) == 0 {
             return;
         }
-        let (zeros, ones) = (places(trits, 0), places(trits, 1));
-        let mut broken = Vec::new();
-        // A 2 among the roots: at the front, in the middle, at the end.
-        for at in [0, zeros[0] / 2, zeros[0]] {
-            broken.push((inserted(trits, at, 2), inserted(shadows, 0, 1)));
-        }
-        // The last trit a 2.
-        for twos in 1..4 {
-            let longer = [&trits[..], &vec![2; twos]].concat();
-            broken.push((longer, [&shadows[..], &vec![1; twos]].concat()));
-        }
-        // A zero or a one too many or too few, at both ends.
-        for (at, trit) in [(l, 0), (0, 1), (l, 1), (l - 1, 1), (l - 1, 0)] {
-            broken.push((inserted(trits, at, trit), shadows.clone()));
-        }
-        let nodes_left = shadows.iter().map(|&shadow| shadow.min(n - 1));
-        broken.push((trits[1..].to_vec(), nodes_left.collect()));
-        broken.push((trits[..l - 1].to_vec(), shadows.clone()));
-        // A zero with one 1 too few before it: the others come just after it.
-        for index in some(n, &mut self.rng) {
-            let mut moved = trits.clone();
-            moved[ones[index]..=zeros[index]].sort_by_key(|&trit| trit == 1);
-            broken.push((moved, shadows.clone()));
-        }
-        for (trits, shadows) in broken {
+        for (trits, shadows) in broken(image, &mut self.rng) {
             if count(&trits, 1) > 0 && trits.len() <= MOST_TRITS {
                 let broken = made(&trits, &shadows);
                 self.refused(&broken.bytes, 23);
@@ -46,12 +53,17 @@ impl Cases {
                 assert_eq!(self.part(&broken.bytes, end - 1), 21);
             }
         }
+        self.broken_trytes(image);
+    }
 
-        // Padding, and bytes that are no trytes, some of them the same trits.
+    /// Padding, and bytes that are no trytes, some of them the same trits.
+    fn broken_trytes(&mut self, image: &Made) {
+        let l = image.trits.len();
         let end = image.end(0);
-        for padding in l % 5..5 * usize::from(l % 5 > 0) {
+        for place in l..l.next_multiple_of(5) {
             for trit in 1..3 {
-                let last = u64::from(image.bytes[end - 1]) + trit * 3u64.pow(padding as u32);
+                let more = trit * 3u64.pow(place as u32 % 5);
+                let last = u64::from(image.bytes[end - 1]) + more;
                 self.refused(&with(&image.bytes, end - 1, 1, last), 23);
             }
         }

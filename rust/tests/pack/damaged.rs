@@ -90,9 +90,19 @@ impl Cases {
     }
 }
 
-/// Small tables cut, changed, lengthened, and with every room.
-pub fn damaged(cases: &mut Cases) {
-    let rng = &mut Xorshift::new(23);
+/// Tables with two faults, and the refusal that comes first in order.
+const TWO_FAULTS: [(&[u16], u32); 7] = [
+    (&[2, 0, 0, 1, 1, 9], 6),    // before 8
+    (&[2, 1, 3, 0, 1, 9], 3),    // before 4
+    (&[2, 1, 3, 65_535], 3),     // before 2
+    (&[2, 0, 0, 3, 1, 1, 9], 5), // before 4
+    (&[2, 0, 0, 3, 1, 9, 1], 4), // before 5
+    (&[1, 0, 3, 1, 1], 5),       // before 1
+    (&[3, 0, 2, 1, 4, 1], 3),    // before 1
+];
+
+/// Small tables: written out, of a few shapes, and at random.
+fn small_tables(rng: &mut Xorshift) -> Vec<Vec<u16>> {
     let mut tables = written_tables();
     tables.push(make::chain(9).table());
     tables.push(make::loops(9).table());
@@ -106,34 +116,25 @@ pub fn damaged(cases: &mut Cases) {
             tables.push(make::wild(n, m, c, rng).table());
         }
     }
-    // Tables with two faults: the first in order is given.
-    for (table, refusal) in [
-        (&[2, 0, 0, 1, 1, 9][..], 6), // before 8
-        (&[2, 1, 3, 0, 1, 9], 3),     // before 4
-        (&[2, 1, 3, 65_535], 3),      // before 2
-        (&[2, 0, 0, 3, 1, 1, 9], 5),  // before 4
-        (&[2, 0, 0, 3, 1, 9, 1], 4),  // before 5
-        (&[1, 0, 3, 1, 1], 5),        // before 1
-        (&[3, 0, 2, 1, 4, 1], 3),     // before 1
-    ] {
+    tables
+}
+
+/// Small tables cut, changed, lengthened, and with every room.
+pub fn damaged(cases: &mut Cases) {
+    let rng = &mut Xorshift::new(23);
+    let mut tables = small_tables(rng);
+    for (table, refusal) in TWO_FAULTS {
         assert_eq!(cases.enough(table), Err(refusal));
         tables.push(table.to_vec());
     }
+    // Two of middle size: more than one mark word and several samples.
+    tables.push(make::random(200, 330, 20, rng).table());
+    tables.push(make::random(130, 500, 130, rng).table());
     for table in &tables {
         cases.rooms(table);
         if !table.is_empty() {
             cases.cuts(table);
             cases.damages(table);
         }
-    }
-    // Two of middle size: more than one mark word and several samples.
-    for graph in [
-        make::random(200, 330, 20, rng),
-        make::random(130, 500, 130, rng),
-    ] {
-        let table = graph.table();
-        cases.rooms(&table);
-        cases.cuts(&table);
-        cases.damages(&table);
     }
 }

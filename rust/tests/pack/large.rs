@@ -46,29 +46,38 @@ pub fn large(cases: &mut Cases) {
     }
 }
 
+/// A table of a graph with one operand more at `node`, counted from 0. A count
+/// of 65,536 wraps to 0.
+fn edge_more(graph: &Graph, node: usize) -> Vec<u16> {
+    let mut more = graph.clone();
+    more.operands[node].push(1);
+    let mut words = vec![more.nodes() as u16];
+    for list in &more.operands {
+        words.push(list.len() as u16);
+        words.extend(list.iter().map(|&operand| operand as u16));
+    }
+    words.push(more.roots.len() as u16);
+    words.extend(more.roots.iter().map(|&root| root as u16));
+    words
+}
+
 /// Each side of the limits of n and m, whole and cut.
 pub fn limits(cases: &mut Cases) {
-    let over = |graph: &Graph, node: usize| {
-        let mut more = graph.clone();
-        more.operands[node].push(1);
-        let mut words = vec![more.nodes() as u16];
-        for list in &more.operands {
-            words.push(list.len() as u16); // 65,536 wraps to 0
-            words.extend(list.iter().map(|&operand| operand as u16));
-        }
-        words.push(more.roots.len() as u16);
-        words.extend(more.roots.iter().map(|&root| root as u16));
-        words
-    };
     let rng = &mut Xorshift::new(19);
     let full = make::random(200, 65_535, 3, rng);
     for node in [0, 1, 100, 199] {
-        let table = over(&full, node);
+        let table = edge_more(&full, node);
         assert_eq!(cases.enough(&table), Err(2));
     }
-    let wrapped = over(&make::loops(65_535), 0);
+    let wrapped = edge_more(&make::loops(65_535), 0);
     assert_eq!(cases.enough(&wrapped), Err(6));
-    // One operand of 1 each, until the count that takes m above 65,535.
+    operand_counts(cases);
+    node_counts(cases);
+}
+
+/// Counts of operands that take m up to 65,535 or above. Each operand is 1, and
+/// there are no roots.
+fn operand_counts(cases: &mut Cases) {
     for (counts, refusal) in [
         (&[65_535, 0][..], 8),
         (&[65_535, 1], 2),
@@ -90,6 +99,10 @@ pub fn limits(cases: &mut Cases) {
         table.push(0);
         assert_eq!(cases.enough(&table), Err(refusal), "{counts:?}");
     }
+}
+
+/// n up to 30,000 or above, and more roots called for than there can be.
+fn node_counts(cases: &mut Cases) {
     for n in [29_999, 30_000] {
         let table = make::all_roots(n).table();
         assert!(cases.enough(&table).is_ok());
@@ -99,7 +112,6 @@ pub fn limits(cases: &mut Cases) {
         table[0] = n;
         assert_eq!(cases.enough(&table), Err(2));
     }
-    // More roots called for than there can be.
     let mut table = make::all_roots(30_000).table();
     table[30_001] = 30_001;
     table.push(1);

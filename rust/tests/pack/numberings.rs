@@ -94,6 +94,23 @@ pub fn every_small_graph(cases: &mut Cases) {
     assert!(least_of.len() > 1_000);
 }
 
+/// A graph with two operands of a node exchanged, with two roots exchanged, with
+/// one operand changed, and with one moved to another node.
+fn changes(graph: &Graph, rng: &mut Xorshift) -> Vec<Graph> {
+    let (n, c) = (graph.nodes(), graph.roots.len());
+    let mut changed = vec![graph.clone(); 4];
+    let user = rng.below(n);
+    let operands = graph.operands[user].len();
+    if operands > 0 {
+        changed[0].operands[user].swap(rng.below(operands), rng.below(operands));
+        changed[2].operands[user][rng.below(operands)] = 1 + rng.below(n);
+        let moved = changed[3].operands[user].remove(rng.below(operands));
+        changed[3].operands[rng.below(n)].push(moved);
+    }
+    changed[1].roots.swap(rng.below(c), rng.below(c));
+    changed
+}
+
 /// Random graphs: renumbered ones give equal images, others different ones.
 pub fn random_graphs(cases: &mut Cases) {
     let mut rng = Xorshift::new(11);
@@ -101,10 +118,9 @@ pub fn random_graphs(cases: &mut Cases) {
     let mut earlier_image = cases.accepted(&earlier).image;
     for round in 0..6_000 {
         let graph = make::of_round(round, &mut rng);
-        let (n, c) = (graph.nodes(), graph.roots.len());
         let packed = cases.accepted(&graph);
 
-        let new = rng.renumbering(n);
+        let new = rng.renumbering(graph.nodes());
         let renumbered = make::renumber(&graph, &new);
         let again = cases.accepted(&renumbered);
         assert_eq!(again.image, packed.image);
@@ -112,19 +128,7 @@ pub fn random_graphs(cases: &mut Cases) {
             assert_eq!(new[usize::from(old) - 1], usize::from(node));
         }
 
-        // Two operands of a node exchanged, two roots exchanged, one operand
-        // changed, one moved to another node.
-        let mut changed = vec![graph.clone(); 4];
-        let user = rng.below(n);
-        let operands = graph.operands[user].len();
-        if operands > 0 {
-            changed[0].operands[user].swap(rng.below(operands), rng.below(operands));
-            changed[2].operands[user][rng.below(operands)] = 1 + rng.below(n);
-            let moved = changed[3].operands[user].remove(rng.below(operands));
-            changed[3].operands[rng.below(n)].push(moved);
-        }
-        changed[1].roots.swap(rng.below(c), rng.below(c));
-        for other in &changed {
+        for other in &changes(&graph, &mut rng) {
             if let Ok(after) = cases.enough(&other.table()) {
                 assert_eq!(after.image == packed.image, same(&graph, other));
             }

@@ -11,6 +11,15 @@ pub struct Room {
     pub image: usize,
 }
 
+/// The buffers lent to one call, each with a guard before and after it.
+#[derive(Clone)]
+struct Buffers {
+    guard: usize,
+    order: Vec<u16>,
+    work: Vec<u32>,
+    image: Vec<u8>,
+}
+
 /// Runs the cases and counts them.
 pub struct Cases {
     pub rng: Xorshift,
@@ -49,12 +58,64 @@ pub fn need(table: &[u16]) -> Room {
     }
 }
 
+impl Buffers {
+    /// Packs a table into the parts between the guards.
+    fn pack(&mut self, table: &[u16], room: Room) -> Result<usize, u32> {
+        let guard = self.guard;
+        glouds::pack(
+            table,
+            &mut self.order[guard..guard + room.order],
+            &mut self.work[guard..guard + room.work],
+            &mut self.image[guard..guard + room.image],
+        )
+    }
+
+    /// The buffers after a call that gives `expected`, from those before it.
+    fn after(&self, table: &[u16], expected: &Result<Packed, u32>) -> Self {
+        let mut after = self.clone();
+        if let Ok(packed) = expected {
+            lay(&mut after.order, self.guard, &packed.order);
+            lay(&mut after.image, self.guard, &packed.image);
+        }
+        if matches!(expected, Ok(_) | Err(8 | 9)) {
+            let cleared = vec![0; 3 * usize::from(table[0])];
+            lay(&mut after.work, self.guard, &cleared);
+        }
+        after
+    }
+}
+
 impl Cases {
     pub fn new(seed: u64) -> Self {
         Cases {
             rng: Xorshift::new(seed),
             run: 0,
             outcomes: [0; 10],
+        }
+    }
+
+    /// Buffers of junk. Work is cleared or has all bits set at times.
+    fn buffers(&mut self, room: Room) -> Buffers {
+        let rng = &mut self.rng;
+        let guard = 1 + self.run % 8;
+        let order = (0..room.order + 2 * guard)
+            .map(|_| rng.bits() as u16)
+            .collect();
+        let image = (0..room.image + 2 * guard)
+            .map(|_| rng.bits() as u8)
+            .collect();
+        let work = (0..room.work + 2 * guard)
+            .map(|_| match self.run % 4 {
+                0 => 0,
+                1 => u32::MAX,
+                _ => rng.bits() as u32,
+            })
+            .collect();
+        Buffers {
+            guard,
+            order,
+            work,
+            image,
         }
     }
 
@@ -68,46 +129,15 @@ impl Cases {
         let refusal = expected.as_ref().err().copied().unwrap_or(0);
         self.outcomes[refusal as usize] += 1;
 
-        let rng = &mut self.rng;
-        let guard = 1 + self.run % 8;
-        let mut order: Vec<u16> = (0..room.order + 2 * guard)
-            .map(|_| rng.bits() as u16)
-            .collect();
-        let mut image: Vec<u8> = (0..room.image + 2 * guard)
-            .map(|_| rng.bits() as u8)
-            .collect();
-        // Junk work, cleared work, or work with all bits set.
-        let mut work: Vec<u32> = (0..room.work + 2 * guard)
-            .map(|_| match self.run % 4 {
-                0 => 0,
-                1 => u32::MAX,
-                _ => rng.bits() as u32,
-            })
-            .collect();
-
-        let mut order_after = order.clone();
-        let mut work_after = work.clone();
-        let mut image_after = image.clone();
-        if let Ok(packed) = &expected {
-            lay(&mut order_after, guard, &packed.order);
-            lay(&mut image_after, guard, &packed.image);
-        }
-        if matches!(expected, Ok(_) | Err(8 | 9)) {
-            lay(&mut work_after, guard, &vec![0; 3 * usize::from(table[0])]);
-        }
-
-        let result = glouds::pack(
-            table,
-            &mut order[guard..guard + room.order],
-            &mut work[guard..guard + room.work],
-            &mut image[guard..guard + room.image],
-        );
+        let mut lent = self.buffers(room);
+        let after = lent.after(table, &expected);
+        let result = lent.pack(table, room);
         let length = expected.as_ref().map(|packed| packed.image.len());
         let case = || format!("table {}, {room:?}", shown(table));
         assert_eq!(result, length.map_err(|&refusal| refusal), "{}", case());
-        assert!(order == order_after, "order list: {}", case());
-        assert!(work == work_after, "work: {}", case());
-        assert!(image == image_after, "image: {}", case());
+        assert!(lent.order == after.order, "order list: {}", case());
+        assert!(lent.work == after.work, "work: {}", case());
+        assert!(lent.image == after.image, "image: {}", case());
         // A shared slice: black_box, or the compiler may take it as unchanged.
         assert!(
             std::hint::black_box(words) == words_before,

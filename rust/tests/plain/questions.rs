@@ -46,6 +46,15 @@ fn questions_and_their_refusals() {
     }
 }
 
+/// A tally of these three numbers.
+fn tally_of(asked: u32, answered: u32, refused: u32) -> Tally {
+    Tally {
+        asked,
+        answered,
+        refused,
+    }
+}
+
 #[test]
 fn batches_and_their_refusals() {
     let image = packed(&DRAWN).image;
@@ -57,28 +66,27 @@ fn batches_and_their_refusals() {
         0
     );
     assert_eq!(answers, [0, 6, 0, 31, 0, 0, 0, 8, 2, 9, 9]);
-    let once = Tally {
-        asked: 3,
-        answered: 2,
-        refused: 1,
-    };
-    assert_eq!(tally, once);
+    assert_eq!(tally, tally_of(3, 2, 1));
+    refused_batches(&image, &questions);
+    let mut tally = tally_of(u32::MAX, u32::MAX, 0);
+    assert_eq!(plain::batch(&image, &[], &mut [], &mut tally), 0);
+    assert_eq!(tally, tally_of(u32::MAX, u32::MAX, 0));
+}
+
+/// Batches with one fault or several: the first in order is given, and answers
+/// and tally stay.
+fn refused_batches(image: &[u8], questions: &[u32; 9]) {
     let bad = &image[1..];
-    let full = |asked, answered, refused| Tally {
-        asked,
-        answered,
-        refused,
-    };
     let near = u32::MAX - 3;
     for (image, questions, room, start, refusal) in [
-        (bad, &questions[..8], 0, full(u32::MAX, 0, 0), 41),
-        (bad, &questions[..9], 8, full(u32::MAX, 0, 0), 42),
-        (bad, &questions[..9], 9, full(near + 1, 0, 0), 43),
-        (bad, &questions[..9], 9, full(0, near + 1, 0), 43),
-        (bad, &questions[..9], 9, full(0, 0, near + 1), 43),
-        (bad, &questions[..9], 9, full(near, near, near), 22),
-        (bad, &questions[..0], 0, full(u32::MAX, 5, u32::MAX), 22),
-        (&image[..50], &questions[..9], 9, full(0, 0, 0), 21),
+        (bad, &questions[..8], 0, tally_of(u32::MAX, 0, 0), 41),
+        (bad, &questions[..9], 8, tally_of(u32::MAX, 0, 0), 42),
+        (bad, &questions[..9], 9, tally_of(near + 1, 0, 0), 43),
+        (bad, &questions[..9], 9, tally_of(0, near + 1, 0), 43),
+        (bad, &questions[..9], 9, tally_of(0, 0, near + 1), 43),
+        (bad, &questions[..9], 9, tally_of(near, near, near), 22),
+        (bad, &questions[..0], 0, tally_of(u32::MAX, 5, u32::MAX), 22),
+        (&image[..50], &questions[..9], 9, tally_of(0, 0, 0), 21),
     ] {
         let mut answers = [7; 11];
         let mut tally = start;
@@ -88,9 +96,6 @@ fn batches_and_their_refusals() {
         );
         assert_eq!((answers, tally), ([7; 11], start));
     }
-    let mut tally = full(u32::MAX, u32::MAX, 0);
-    assert_eq!(plain::batch(&image, &[], &mut [], &mut tally), 0);
-    assert_eq!(tally, full(u32::MAX, u32::MAX, 0));
 }
 
 #[test]

@@ -2,8 +2,25 @@
 //! and what unpacking gives.
 
 use glouds::make::{self, Xorshift};
-use glouds::plain::{self, Graph};
+use glouds::plain::{self, Graph, Packed};
 use std::collections::HashSet;
+
+/// Every list of at most `most` operands among n nodes.
+fn operand_lists(n: usize, most: usize) -> Vec<Vec<usize>> {
+    let mut lists = vec![Vec::new()];
+    let mut from = 0;
+    for _ in 0..most {
+        let to = lists.len();
+        for index in from..to {
+            for operand in 1..=n {
+                let list: &Vec<usize> = &lists[index];
+                lists.push([&list[..], &[operand]].concat());
+            }
+        }
+        from = to;
+    }
+    lists
+}
 
 /// Every graph with these many nodes and at most these many edges and trits.
 fn graphs(n: usize, most_edges: usize, most_trits: usize) -> Vec<Graph> {
@@ -11,19 +28,7 @@ fn graphs(n: usize, most_edges: usize, most_trits: usize) -> Vec<Graph> {
     for _ in 0..n {
         let mut next = Vec::new();
         for graph in with_operands {
-            let mut lists = vec![Vec::new()];
-            let mut from = 0;
-            for _ in graph.edges()..most_edges {
-                let to = lists.len();
-                for index in from..to {
-                    for operand in 1..=n {
-                        let list: &Vec<usize> = &lists[index];
-                        lists.push([&list[..], &[operand]].concat());
-                    }
-                }
-                from = to;
-            }
-            for list in lists {
+            for list in operand_lists(n, most_edges - graph.edges()) {
                 let mut longer = graph.clone();
                 longer.operands.push(list);
                 next.push(longer);
@@ -137,29 +142,34 @@ fn unpacked_tables_and_edges() {
             .iter()
             .zip(1..)
             .all(|(&node, level)| node == level));
+        edges(&graph, &packed);
+    }
+}
 
-        let opened = plain::open(&packed.image).unwrap();
-        let mut users = vec![Vec::new(); n];
-        for (level, &node) in packed.order.iter().enumerate() {
-            let listed: Vec<usize> = opened.operands[level]
-                .iter()
-                .map(|&(operand, _)| usize::from(packed.order[operand - 1]))
-                .collect();
-            assert_eq!(listed, graph.operands[usize::from(node) - 1]);
-            for &(operand, sort) in &opened.operands[level] {
-                users[operand - 1].push((level + 1, sort));
-            }
+/// The operands and users of an image are the graph's own edges, also by
+/// questions, and their counts sum to m.
+fn edges(graph: &Graph, packed: &Packed) {
+    let (n, m) = (graph.nodes(), graph.edges());
+    let opened = plain::open(&packed.image).unwrap();
+    let mut users = vec![Vec::new(); n];
+    for (level, &node) in packed.order.iter().enumerate() {
+        let listed: Vec<usize> = opened.operands[level]
+            .iter()
+            .map(|&(operand, _)| usize::from(packed.order[operand - 1]))
+            .collect();
+        assert_eq!(listed, graph.operands[usize::from(node) - 1]);
+        for &(operand, sort) in &opened.operands[level] {
+            users[operand - 1].push((level + 1, sort));
         }
-        assert_eq!(opened.users, users);
-        for (kind, lists) in [(3, &opened.operands), (5, &opened.users)] {
-            let counts = (1..=n as u32).map(|node| plain::answer(&opened, kind, node, 0)[1]);
-            assert_eq!(counts.sum::<u32>() as usize, m);
-            for (index, list) in lists.iter().enumerate() {
-                for (number, &(node, sort)) in list.iter().enumerate() {
-                    let answer =
-                        plain::answer(&opened, kind + 1, index as u32 + 1, number as u32 + 1);
-                    assert_eq!(answer, [0, node as u32, sort]);
-                }
+    }
+    assert_eq!(opened.users, users);
+    for (kind, lists) in [(3, &opened.operands), (5, &opened.users)] {
+        let counts = (1..=n as u32).map(|node| plain::answer(&opened, kind, node, 0)[1]);
+        assert_eq!(counts.sum::<u32>() as usize, m);
+        for (index, list) in lists.iter().enumerate() {
+            for (number, &(node, sort)) in list.iter().enumerate() {
+                let answer = plain::answer(&opened, kind + 1, index as u32 + 1, number as u32 + 1);
+                assert_eq!(answer, [0, node as u32, sort]);
             }
         }
     }

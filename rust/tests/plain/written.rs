@@ -37,6 +37,15 @@ fn both_sides_of_each_line() {
     let third = packed(&[3, 2, 3, 2, 0, 1, 2, 1, 1]);
     assert_eq!(third.order, [1, 3, 2]);
     assert_eq!(third.image, packed(&first).image);
+    refused_tables();
+    let most = plain::pack_graph(&make::all_roots(30_000)).unwrap();
+    assert_eq!(most.trits.len(), 60_001);
+    assert_eq!(asked(&DRAWN, 1, 0, 21), [0, 9, 0]);
+    assert_eq!(asked(&DRAWN, 1, 0, 22), [33, 0, 0]);
+}
+
+/// A table for each refusal from 1 to 6 and 8.
+fn refused_tables() {
     for (table, refusal) in [
         (&[2, 0, 0, 1, 1][..], 8),
         (&[1, 0, 0], 8),
@@ -54,10 +63,6 @@ fn both_sides_of_each_line() {
     ] {
         assert_eq!(plain::pack(table), Err(refusal), "{table:?}");
     }
-    let most = plain::pack_graph(&make::all_roots(30_000)).unwrap();
-    assert_eq!(most.trits.len(), 60_001);
-    assert_eq!(asked(&DRAWN, 1, 0, 21), [0, 9, 0]);
-    assert_eq!(asked(&DRAWN, 1, 0, 22), [33, 0, 0]);
 }
 
 #[test]
