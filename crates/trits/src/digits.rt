@@ -262,21 +262,22 @@ pub fn tryte_table() -> [u8; 243]
     TABLE
 }
 
-// 3 to the power `r`.
+// 3 to the power `r`. The last arm is never reached: with it the others are a table, and no branch is to be guessed.
 fn power(r: usize) -> usize
     requires { ⌜ r < 5 ⌝ }
-    ensures { λ w. ⌜ (w ≡ 3 ^ r) × (0 < w) ⌝ }
+    ensures { λ w. ⌜ w ≡ 3 ^ r ⌝ }
 {
     match r {
         0 => 1,
         1 => 3,
         2 => 9,
         3 => 27,
-        _ => 81,
+        4 => 81,
+        _ => 0,
     }
 }
 
-// A little more than 65,536 / 3^r.
+// A little more than 65,536 / 3^r, in the same way.
 fn inverse(r: usize) -> usize
     requires { ⌜ r < 5 ⌝ }
     ensures { λ m. ⌜ m ≡ 65536 / 3 ^ r + 1 ⌝ }
@@ -286,7 +287,8 @@ fn inverse(r: usize) -> usize
         1 => 21846,
         2 => 7282,
         3 => 2428,
-        _ => 810,
+        4 => 810,
+        _ => 0,
     }
 }
 

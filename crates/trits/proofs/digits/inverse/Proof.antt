@@ -1,11 +1,8 @@
 -- `trits::digits::inverse` meets its contract: one arm a power. Assumes nothing.
 use native.Mathlib.Omega.{arith}
-use mathlib.Core.Path.{_≡_, refl}
+use mathlib.Core.Path.{refl}
 use Rattle.trits.proofs.digits.inverse.Statement.{statement}
 use Rattle.trits.proofs.digits.inverse.Tie as tie
-
-last : tie.Need-returns-5
-last c = let e : c .before .args .r ≡ 4 = omega arith in rw e refl
 
 pub inverse-spec : {M : Type 1} → statement M
 inverse-spec =
@@ -14,4 +11,5 @@ inverse-spec =
     (λ c. rw (c .match .keys2) refl)
     (λ c. rw (c .match .keys3) refl)
     (λ c. rw (c .match .keys4) refl)
-    last)
+    (λ c. rw (c .match .keys5) refl)
+    (λ c. absurd (omega arith)))

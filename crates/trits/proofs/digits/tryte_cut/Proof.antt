@@ -7,7 +7,7 @@ use Rattle.trits.proofs.digits.tryte_cut.Statement.{statement}
 use Rattle.trits.proofs.digits.tryte_cut.Tie as tie
 
 parts : (c : tie.After-tryte-rest) → let a = c .before .before .args in c .before .power .result * c .tryte-rest .result + a .x % 3 ^ a .r ≡ a .x
-parts c = let a = c .before .before .args in rw (c .before .power .ensures .0, c .tryte-rest .ensures) (div-add-mod (a .x) (3 ^ a .r))
+parts c = let a = c .before .before .args in rw (c .before .power .ensures, c .tryte-rest .ensures) (div-add-mod (a .x) (3 ^ a .r))
 
 pub tryte-cut-spec : {M : Type 1} → statement M
 tryte-cut-spec =
