@@ -4,13 +4,12 @@ use native.Mathlib.Omega.{arith}
 use mathlib.Core.Path.{_≡_, sym, ap, _∙_}
 use mathlib.Core.List.{List}
 use borrow.Author.Needs.{needs}
-use lib.ListN.{length, getD}
+use lib.ListN.{length}
 use Rattle.format.specs.Faults.{fault}
 use Rattle.format.specs.Lists.{same}
 use Rattle.format.specs.Image.{bytes, pairs, lastMultiple}
 use Rattle.format.specs.Proper.{givenFault}
 use Rattle.format.specs.Answers.{checkedNumber}
-use Rattle.format.proofs.Tryte.{tryte-entry}
 use Rattle.samples.specs.Lent.{TritsIn}
 use Rattle.proper.specs.Examined.{opens}
 use Rattle.samples.specs.Samples.{sampleSection}
@@ -47,7 +46,7 @@ plan c trits T e =
 samples-right-requires : tie.Need-samples-right-requires
 samples-right-requires c κs =
     let p = c .before .before .before .before .before .before .pre in
-    (λ x h. ap (λ (l : List ℕ). getD l x 0) (p .0) ∙ tryte-entry x h, (p .2 .0, p .2 .1, p .2 .2, plan c (p .2 .0) (p .2 .1) (p .2 .2)))
+    (p .0, (p .2 .0, p .2 .1, p .2 .2, plan c (p .2 .0) (p .2 .1) (p .2 .2)))
 
 gives : (c : tie.After-samples-right) → let x = c .before .before .before .before .before .before .before .args in (trits : List ℕ) → TritsIn trits (x .bs .now) → length trits ≡ x .l
     → fault 25 (c .samples-right .result) ≡ givenFault (sampleSection (x .step) (x .fan) (x .width) trits) (x .rest .now)
