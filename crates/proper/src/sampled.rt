@@ -57,7 +57,7 @@ pub fn samples_right(
     width: usize,
 ) -> bool
     requires { ⌜ (now table ≡ tryteTable) × ((trits : List ℕ) × TritsIn trits (now bs) × (length trits ≡ l) × Planned trits step fan width (now part)) ⌝ }
-    ensures { λ r. ⌜ ((trits : List ℕ) → TritsIn trits (now (bs .entry)) → length trits ≡ l → Planned trits step fan width (now (part .entry))
+    ensures { λ r. ⌜ ((trits : List ℕ) → TritsIn trits (now (bs .entry)) → length trits ≡ l
         → r ≡ same (now (part .entry)) (bytes width (pairs step (lastMultiple (step * fan)) trits))) ⌝ }
 {
     let many = step / 5;
