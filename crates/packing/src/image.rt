@@ -3,12 +3,12 @@ ghost use mathlib.Core.Path.{_≡_};
 ghost use mathlib.Core.List.{List, [], _∷_};
 ghost use Prim.Native.Nat.{ℕ, _-_, _≤_};
 ghost use Rattle.format.specs.Lists.{over};
+ghost use Rattle.format.specs.Trits.{tryteTable};
 ghost use Rattle.format.specs.Level.{walk};
 ghost use Rattle.format.specs.Image.{section3, section4, section5, section6, section7, section8, section9, written};
 ghost use Rattle.format.specs.Packing.{imageOf};
 ghost use Rattle.little.specs.Put.{putAt};
 ghost use Rattle.marks.specs.Uses.{Uses};
-ghost use Rattle.samples.specs.Lent.{Rule};
 ghost use Rattle.samples.specs.Places.{groupEnds};
 ghost use Rattle.samples.specs.Samples.{sampleSection, Plan};
 ghost use Rattle.packing.specs.Work.{graphOf};
@@ -82,7 +82,7 @@ fn put_sample_section(
     width: usize,
     at: usize,
 )
-    requires { ⌜ ((trits : List ℕ) × (H : List ℕ) × Started trits H lay (now image) × Plan step fan width (lay .trits) at (now image) × (lay .at3 ≤ at) × Rule (now table)) ⌝ }
+    requires { ⌜ ((trits : List ℕ) × (H : List ℕ) × Started trits H lay (now image) × Plan step fan width (lay .trits) at (now image) × (lay .at3 ≤ at) × (now table ≡ tryteTable)) ⌝ }
     ensures { λ _. ⌜ ((trits H : List ℕ) → Started trits H lay (now (image .entry))
         → (now (image .exit) ≡ putAt (now (image .entry)) (at - 4) (written (sampleSection step fan width trits ∷ [])))
         × Started trits H lay (now (image .exit))) ⌝ }

@@ -3,7 +3,7 @@ use Prim.Native.Nat.{ℕ, _+_, _*_, _/_, _^_, _≤_, _<_}
 use native.Mathlib.Nat.{add-zero, mul-suc, mul-comm, mul-le-mul-left, zero-mod}
 use native.Mathlib.Decide.{ℕ-discrete}
 use native.Mathlib.Omega.{arith}
-use mathlib.Core.Path.{_≡_, refl, sym, ap, _∙_}
+use mathlib.Core.Path.{_≡_, refl, sym, ap, _∙_, subst}
 use mathlib.Core.Bool.{Bool, true, false, not, _&&_}
 use mathlib.Core.List.{List}
 use lib.Dec.{eqb, lit<}
@@ -21,6 +21,7 @@ use Rattle.samples.specs.Lent.{TritsIn}
 use Rattle.samples.specs.Samples.{Width, Sampling, far, middle, near, Paced, Counting, Step}
 use Rattle.samples.proofs.SampleLaws.{none, counting-anew, pair-is, paced, step-follows, far-pairs}
 use Rattle.proper.specs.Samples.{Planned, pairHolds}
+use Rattle.proper.proofs.SecondLaws.{trits-are}
 
 -- ---- the three sections
 
@@ -32,6 +33,11 @@ numbers-fit near trits few = fits8 trits
 pub planned : {i step fan width : ℕ} → Sampling i step fan width → (trits part : List ℕ) → length trits ≤ 125536
     → length part ≡ width * (2 * (length trits / step + 1)) → Planned trits step fan width part
 planned s trits part few e = record { paced = paced s; full = e; fits = numbers-fit s trits few }
+
+-- what is planned for trits is planned for all that section 1 can hold: there is only one
+pub same-planned : {trits trits′ bs part : List ℕ} {l step fan width : ℕ} → TritsIn trits bs → length trits ≡ l → Planned trits step fan width part
+    → TritsIn trits′ bs → length trits′ ≡ l → Planned trits′ step fan width part
+same-planned {part = part} {step = step} {fan} {width} T e P T′ e′ = subst (λ (ts : List ℕ). Planned ts step fan width part) (sym (trits-are T e) ∙ trits-are T′ e′) P
 
 -- ---- numbers in a section
 

@@ -10,8 +10,9 @@ ghost use mathlib.Core.List.{List};
 ghost use Prim.Native.Nat.{ℕ, _+_, _*_, _≤_};
 ghost use lib.ListN.{length};
 ghost use Rattle.format.specs.Lists.{same};
+ghost use Rattle.format.specs.Trits.{tryteTable};
 ghost use Rattle.format.specs.Image.{bytes, pairs, lastMultiple, read};
-ghost use Rattle.samples.specs.Lent.{Rule, TritsIn};
+ghost use Rattle.samples.specs.Lent.{TritsIn};
 ghost use Rattle.samples.specs.Samples.{Width};
 ghost use Rattle.proper.specs.Samples.{Planned, pairHolds};
 
@@ -55,8 +56,8 @@ pub fn samples_right(
     fan: usize,
     width: usize,
 ) -> bool
-    requires { ⌜ Rule (now table) × ((trits : List ℕ) × TritsIn trits (now bs) × (length trits ≡ l) × Planned trits step fan width (now part)) ⌝ }
-    ensures { λ r. ⌜ ((trits : List ℕ) → TritsIn trits (now (bs .entry)) → length trits ≡ l → Planned trits step fan width (now (part .entry))
+    requires { ⌜ (now table ≡ tryteTable) × ((trits : List ℕ) × TritsIn trits (now bs) × (length trits ≡ l) × Planned trits step fan width (now part)) ⌝ }
+    ensures { λ r. ⌜ ((trits : List ℕ) → TritsIn trits (now (bs .entry)) → length trits ≡ l
         → r ≡ same (now (part .entry)) (bytes width (pairs step (lastMultiple (step * fan)) trits))) ⌝ }
 {
     let many = step / 5;

@@ -9,17 +9,18 @@ use lib.Dec.{lit<, lit≤}
 use lib.ListN.{length, getD, take, drop}
 use lib.Seq.{ext-getD}
 use Rattle.format.specs.Lists.{run, each, join, lowDigits, spread, up}
-use Rattle.format.specs.Trits.{rank, trytes, tryteCount}
+use Rattle.format.specs.Trits.{rank, trytes, tryteCount, tryteTable}
 use Rattle.format.specs.Image.{leBytes, bytes, pair, pairs, lastMultiple, section6}
 use Rattle.format.proofs.Laws.{rank-le, run-snoc, join-append, length-run}
 use Rattle.format.proofs.Digits.{gather-at, horner-lt, below-block, length-digits, length-block, length-blocks, lt-up}
 use Rattle.format.proofs.Select.{rank-tryte}
+use Rattle.format.proofs.Tryte.{tryte-entry}
 use Rattle.format.proofs.Sizes.{length-trytes, length-bytes, length-pairs}
 use Rattle.format.proofs.ImageReads.{pairs-at}
 use Rattle.little.specs.Put.{putAt}
 use Rattle.little.proofs.Laws.{put-more, put-same, put-before, bytes-append}
 use Rattle.samples.specs.declared.Counts.{Counts}
-use Rattle.samples.specs.Lent.{Rule, TritsIn, TritsAt}
+use Rattle.samples.specs.Lent.{TritsIn, TritsAt}
 use Rattle.samples.specs.Samples.{Sampling, far, middle, near, sampleSection, Paced, Plan, CountedFrom, Counting, Step}
 
 -- ---- one tryte
@@ -48,14 +49,14 @@ module _ {trits bs : List ℕ} (T : TritsIn trits bs) (i : ℕ) (l : 5 * i + 5 �
       rw (T .trytes-are, e) (rank-tryte t trits (T .threes) i 5 (lit≤ tt) l)
 
   -- a table entry's zeros and ones
-  pub count-on : (table : List ℕ) → Rule table → {x e start zeros ones : ℕ} → x ≡ getD bs i 0 → e ≡ getD table x 0
+  pub count-on : {table : List ℕ} → table ≡ tryteTable → {x e start zeros ones : ℕ} → x ≡ getD bs i 0 → e ≡ getD table x 0
       → CountedFrom trits start (5 * i) zeros ones → CountedFrom trits start (5 * (i + 1)) (zeros + e % 8) (ones + e / 8)
   unfolding tryteCount rank
-  count-on table rule {x} ex ee c =
-      let h : x < 243 = omega (arith, low) in
+  count-on {table} is {x} ex ee c =
+      let entry : getD table x 0 ≡ tryteCount 0 x 5 + 8 * tryteCount 1 x 5 = ap (λ (l : List ℕ). getD l x 0) is ∙ tryte-entry x (omega (arith, low)) in
       let few : tryteCount 0 x 5 ≤ 5 = rank-le 0 (lowDigits 3 5 x) 5 in
       let on : (t : ℕ) → rank t trits (5 * (i + 1)) ≡ rank t trits (5 * i) + tryteCount t x 5 = rw ex rank-on in
-      record { zeros-are = omega (arith, rule x h, on 0, c .zeros-are); ones-are = omega (arith, rule x h, on 1, c .ones-are) }
+      record { zeros-are = omega (arith, entry, on 0, c .zeros-are); ones-are = omega (arith, entry, on 1, c .ones-are) }
 
 -- what is put from `at` on leaves section 1 as it was
 pub trits-stay : {trits old image : List ℕ} {a e at : ℕ} (vs : List ℕ) → TritsAt trits old a e at → at ≤ length old → image ≡ putAt old at vs → TritsIn trits (take (e - a) (drop a image))

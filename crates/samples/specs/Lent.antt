@@ -1,16 +1,12 @@
--- What the writers of sections 5 to 8 read: the contents of sections 1 and 2 in the image, and the table of trytes. Assumes nothing.
-use Prim.Native.Nat.{ℕ, _+_, _-_, _*_, _≤_, _<_}
+-- What the writers of sections 5 to 8 read: the contents of sections 1 and 2 in the image. Assumes nothing.
+use Prim.Native.Nat.{ℕ, _+_, _-_, _*_, _≤_}
 use mathlib.Core.Path.{_≡_}
 use mathlib.Core.List.{List}
-use lib.ListN.{length, getD, take, drop}
+use lib.ListN.{length, take, drop}
 use Rattle.format.specs.Lists.{countIn, Below}
-use Rattle.format.specs.Trits.{trytes, tryteCount}
+use Rattle.format.specs.Trits.{trytes}
 use Rattle.format.specs.Image.{bytes, nodeCount}
 use Rattle.format.specs.Table.{AllNodes}
-
--- the table gives the zeros and ones of every tryte: an entry is zeros + 8 · ones
-abbrev pub Rule : List ℕ → Type 0
-Rule table = (x : ℕ) → x < 243 → getD table x 0 ≡ tryteCount 0 x 5 + 8 * tryteCount 1 x 5
 
 -- bs is section 1's contents: the trytes of the trits
 pub record TritsIn (trits bs : List ℕ) : Type 0 where

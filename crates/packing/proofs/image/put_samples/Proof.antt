@@ -1,23 +1,17 @@
 -- `image::put_samples` meets its contract: three levels, one behind the other. Assumes nothing.
 use native.Mathlib.Omega.{arith}
-use mathlib.Core.Path.{sym, subst}
 use borrow.Author.Needs.{needs}
 use Rattle.format.specs.Image.{section7, section8}
-use Rattle.format.proofs.Tryte.{tryte-entry}
-use Rattle.samples.specs.Lent.{Rule}
 use Rattle.samples.specs.Samples.{sampleSection}
 use Rattle.packing.proofs.ImageLaws.{offsets, plan6, plan7, plan8, samples-put}
 use Rattle.packing.proofs.image.put_samples.Statement.{statement}
 use Rattle.packing.proofs.image.put_samples.Tie as tie
 
-rule : (c : tie.After-tryte-table) → Rule (c .tryte-table .result)
-rule c = subst Rule (sym (c .tryte-table .ensures)) tryte-entry
-
 put-sample-section-requires : tie.Need-put-sample-section-requires
 put-sample-section-requires c κs =
     let table = c .before .before in
     let p = table .before .before .pre in
-    (p .0, p .1, p .2, plan6 (p .2 .laid), omega (arith, offsets (p .2 .laid)), rule table)
+    (p .0, p .1, p .2, plan6 (p .2 .laid), omega (arith, offsets (p .2 .laid)), table .tryte-table .ensures)
 
 put-sample-section-requires-2 : tie.Need-put-sample-section-requires-2
 put-sample-section-requires-2 c κs =
@@ -25,7 +19,7 @@ put-sample-section-requires-2 c κs =
     let table = six .before .before .before in
     let p = table .before .before .pre in
     let s = six .put-sample-section .ensures (p .0) (p .1) (p .2) .1 in
-    (p .0, p .1, s, plan7 (s .laid), omega (arith, offsets (s .laid)), rule table)
+    (p .0, p .1, s, plan7 (s .laid), omega (arith, offsets (s .laid)), table .tryte-table .ensures)
 
 put-sample-section-requires-3 : tie.Need-put-sample-section-requires-3
 put-sample-section-requires-3 c κs =
@@ -34,7 +28,7 @@ put-sample-section-requires-3 c κs =
     let table = six .before .before .before in
     let p = table .before .before .pre in
     let s = seven .put-sample-section2 .ensures (p .0) (p .1) (six .put-sample-section .ensures (p .0) (p .1) (p .2) .1) .1 in
-    (p .0, p .1, s, plan8 (s .laid), omega (arith, offsets (s .laid)), rule table)
+    (p .0, p .1, s, plan8 (s .laid), omega (arith, offsets (s .laid)), table .tryte-table .ensures)
 
 returns : tie.Need-returns
 unfolding section7 section8 sampleSection

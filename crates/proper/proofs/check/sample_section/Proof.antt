@@ -4,17 +4,15 @@ use native.Mathlib.Omega.{arith}
 use mathlib.Core.Path.{_≡_, sym, ap, _∙_}
 use mathlib.Core.List.{List}
 use borrow.Author.Needs.{needs}
-use lib.ListN.{length, getD}
+use lib.ListN.{length}
 use Rattle.format.specs.Faults.{fault}
 use Rattle.format.specs.Lists.{same}
 use Rattle.format.specs.Image.{bytes, pairs, lastMultiple}
 use Rattle.format.specs.Proper.{givenFault}
 use Rattle.format.specs.Answers.{checkedNumber}
-use Rattle.format.proofs.Tryte.{tryte-entry}
 use Rattle.samples.specs.Lent.{TritsIn}
 use Rattle.proper.specs.Examined.{opens}
 use Rattle.samples.specs.Samples.{sampleSection}
-use Rattle.proper.specs.Samples.{Planned}
 use Rattle.proper.proofs.OpenLaws.{opens-room, given-refused, given-right}
 use Rattle.proper.proofs.GivenLaws.{sampling-small, front-samples}
 use Rattle.proper.proofs.PairLaws.{planned}
@@ -37,17 +35,13 @@ front : (c : tie.After-enum-told) → let x = c .before .before .before .before 
 front c = sym (ap checkedNumber (c .enum-told .given .1)) ∙ c .before .before .opened .ensures
 
 -- its contents are as many pairs as the trits give
-plan : (c : tie.After-contents) → let x = c .before .before .before .before .before .before .args in (trits : List ℕ) → TritsIn trits (x .bs .now) → length trits ≡ x .l
-    → Planned trits (x .step) (x .fan) (x .width) (c .contents .result .now)
-plan c trits T e =
-    let s = c .before .before .before .before .before .before in
-    planned (s .pre .1 .1) trits _ (T .few)
-    (c .contents .ensures .1 ∙ ap (λ (k : ℕ). s .args .width * (2 * (k / s .args .step + 1))) (sym e))
-
 samples-right-requires : tie.Need-samples-right-requires
 samples-right-requires c κs =
-    let p = c .before .before .before .before .before .before .pre in
-    (λ x h. ap (λ (l : List ℕ). getD l x 0) (p .0) ∙ tryte-entry x h, (p .2 .0, p .2 .1, p .2 .2, plan c (p .2 .0) (p .2 .1) (p .2 .2)))
+    let s = c .before .before .before .before .before .before in
+    let p = s .pre in
+    let t = p .2 in
+    let full = c .contents .ensures .1 ∙ ap (λ (k : ℕ). s .args .width * (2 * (k / s .args .step + 1))) (sym (t .2)) in
+    (p .0, (t .0, t .1, t .2, planned (p .1 .1) (t .0) _ (t .1 .few) full))
 
 gives : (c : tie.After-samples-right) → let x = c .before .before .before .before .before .before .before .args in (trits : List ℕ) → TritsIn trits (x .bs .now) → length trits ≡ x .l
     → fault 25 (c .samples-right .result) ≡ givenFault (sampleSection (x .step) (x .fan) (x .width) trits) (x .rest .now)
@@ -55,7 +49,7 @@ unfolding sampleSection
 gives c trits T e =
     let x = c .before .before .before .before .before .before .before .args in
     given-right (front-samples trits (x .step) (x .fan) (x .width) e) (x .rest .now) (c .samples-right .result) (front (c .before .before))
-    (c .samples-right .ensures trits T e (plan (c .before) trits T e)
+    (c .samples-right .ensures trits T e
     ∙ ap (λ (l : List ℕ). same l (bytes (x .width) (pairs (x .step) (lastMultiple (x .step * x .fan)) trits))) (c .before .contents .ensures .0))
 
 pub sample-section-spec : {M : Type 1} → statement M
