@@ -27,7 +27,7 @@ pub record Planned (table work : List ℕ) (lay : Layout) (image : List ℕ) : T
   pub laid : lay ≡ layoutOf (graphOf table)
   pub room : length (imageOf (graphOf table)) ≤ length image
 
--- lay is the layout of the image of trits and shadows, and the buffer has room for it
+-- lay is the layout of the image of trits and shadows, its roots apart, which no section is placed by; the buffer has room for it
 pub record LaidOut (trits H : List ℕ) (lay : Layout) (buffer : List ℕ) : Type 0 where
   pub proper : ProperTrits trits H
   pub is : lay ≡ layout (length trits) (nodeCount trits) (lay .roots) (length H) (length (markedNodes trits H))

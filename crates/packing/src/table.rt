@@ -135,7 +135,7 @@ fn roots(table: &[u16], n: usize, at: usize, c: usize) -> Step
 
 // The count of roots and the roots, after n operand lists that end before `at`; nothing may follow.
 fn ending(table: &[u16], n: usize, at: usize) -> Scanned
-    requires { ⌜ (n < at) × (at ≤ length (now table)) × (n ≤ 30000) ⌝ }
+    requires { ⌜ (n < at) × (at ≤ length (now table)) × (n ≤ 30000) × ((os : List (List ℕ)) × Lists n at os (now table)) ⌝ }
     ensures { λ r. ⌜ ((os : List (List ℕ)) → Lists n at os (now (table .entry)) → sizes r ≡ sizesOf (readTable (now (table .entry)))) ⌝ }
 {
     if table.len() <= at {

@@ -47,7 +47,7 @@ pub marked-few : (trits H : List ℕ) → length (markedNodes trits H) ≤ nodeC
 unfolding markedNodes
 marked-few trits H = omega (arith, length-keep (marked H) (run 1 (nodeCount trits)), length-run 1 (nodeCount trits))
 
--- ---- sections 6, 7 and 8 are levels
+-- ---- sections 6, 7 and 8
 
 pub sampling-small : {i step fan width : ℕ} → Sampling i step fan width → {l : ℕ} → l ≤ 125536 → (0 < step) × (l / step ≤ 125536) × (width * (2 * (l / step + 1)) ≤ 1004296)
 sampling-small far h = (lit< tt, omega arith, omega arith)

@@ -117,7 +117,7 @@ fn sample_section(
     Checked::Refused(Refusal::IndexWrong)
 }
 
-// How section 6, 7 or 8 counts: trits from sample to sample, samples until counting begins anew (in section 6 more than an image has), bytes a number.
+// How section 6, 7 or 8 counts: trits from sample to sample, steps until counting begins anew (in section 6 two, which no image reaches), bytes a number.
 struct Plan {
     step: usize,
     fan: usize,

@@ -1,4 +1,4 @@
--- What the writers of sections 5 to 8 read: the contents of sections 1 and 2 in the image. Assumes nothing.
+-- What sections 5 to 8 are written and checked from: the contents of sections 1 and 2. Assumes nothing.
 use Prim.Native.Nat.{ℕ, _+_, _-_, _*_, _≤_}
 use mathlib.Core.Path.{_≡_}
 use mathlib.Core.List.{List}

@@ -1,4 +1,4 @@
--- What a section of samples is written by, and how far its writer has come. Assumes nothing.
+-- What a section of samples is, and the counts at a sample, for its writer and its checker. Assumes nothing.
 use Prim.Native.Nat.{ℕ, _+_, _-_, _*_, _/_, _%_, _≤_, _<_}
 use mathlib.Core.Path.{_≡_}
 use mathlib.Core.List.{List}

@@ -29,7 +29,7 @@ put-marks-requires c κs =
     let p = count3 (c .before .before .before) .pre in
     let d = p .2 in
     let n = sized d .nodes-are in
-    (omega (arith, p .3 .nodes, few-nodes d), omega (arith, p .3 .nodes, within d, offsets d .at4-is, sized d .size-of 2))
+    (omega (arith, p .3 .nodes, few-nodes d), omega (arith, p .3 .nodes, within d, offsets d .at4-is, sized d .size-of 2), (p .0, p .1, p .3))
 
 put-starts-requires : tie.Need-put-starts-requires
 put-starts-requires c κs =
@@ -42,7 +42,7 @@ put-mark-samples-requires c κs =
     let p = starts (c .before .before .before .before .before .before .before) .pre in
     let d = p .2 in
     let n = sized d .nodes-are in
-    (omega (arith, p .3 .nodes, few-nodes d), omega (arith, p .3 .nodes, within d))
+    (omega (arith, p .3 .nodes, few-nodes d), omega (arith, p .3 .nodes, within d), (p .0, p .1, p .3))
 
 returns : tie.Need-returns
 unfolding section3 section4 section9

@@ -1,4 +1,4 @@
--- `image::put_samples` meets its contract: three levels, one behind the other. Assumes nothing.
+-- `image::put_samples` meets its contract: three sections, one behind the other. Assumes nothing.
 use native.Mathlib.Omega.{arith}
 use borrow.Author.Needs.{needs}
 use Rattle.format.specs.Image.{section7, section8}

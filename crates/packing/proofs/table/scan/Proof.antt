@@ -19,7 +19,7 @@ ending-requires c κs =
     let w = r .before .before in
     let s = scan-lists (w .before .before .before .args .table .now) _ (w .word .ensures .0) (omega arith) (r .before .if2 .left) _
     (sym (ap placeOf (c .before .at .given .1)) ∙ r .lists .ensures) in
-    (omega (arith, s .1 .ends), s .2, r .before .if2 .left)
+    (omega (arith, s .1 .ends), s .2, r .before .if2 .left, (s .0, s .1))
 
 returns-3 : tie.Need-returns-3
 returns-3 c =
