@@ -33,7 +33,7 @@ use Rattle.samples.proofs.SampleLaws.{paced, far-section}
 use Rattle.trits.specs.declared.Layout.{Layout}
 use Rattle.trits.specs.Layout.{layout}
 use Rattle.packing.specs.Work.{graphOf, startOf, usesOf}
-use Rattle.packing.specs.Packed.{layoutOf, Planned, LaidOut, front, Started}
+use Rattle.packing.specs.Packed.{graphLayout, Planned, LaidOut, front, Started}
 use Rattle.packing.proofs.PackLaws.{roots-at}
 
 -- ---- puts
@@ -343,7 +343,7 @@ module _ {table work image : List ℕ} {lay : Layout} (p : Planned table work la
 
   -- the count of roots stands where the roots and the trits before them end
   pub roots-from : (lay .roots ≤ lay .trits) × (lay .trits - lay .roots ≡ startOf g (lay .nodes))
-  unfolding layoutOf
+  unfolding graphLayout
   roots-from =
       let c = counted in
       let t : lay .trits ≡ length (walk g .trits) = ap (λ (x : Layout). x .trits) (p .laid) in
@@ -352,7 +352,7 @@ module _ {table work image : List ℕ} {lay : Layout} (p : Planned table work la
       (omega arith, omega (arith, p .walked .sized .many))
 
   pub laid-walk : LaidOut (walk g .trits) (walk g .shadows) lay image
-  unfolding layoutOf imageOf nodeCount
+  unfolding graphLayout imageOf nodeCount
   laid-walk =
       let c = counted in
       record {

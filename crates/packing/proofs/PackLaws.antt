@@ -31,7 +31,7 @@ use Rattle.packing.specs.declared.table.Sizes.{Sizes}
 use Rattle.packing.specs.Sizes.{sizesOf}
 use Rattle.packing.specs.Work.{graphOr, graphOf, Sized, startOf, Kept, WorkAt}
 use Rattle.packing.specs.Stream.{Walked}
-use Rattle.packing.specs.Packed.{layoutOf, Planned, Measured, Ordered, Uncleared}
+use Rattle.packing.specs.Packed.{graphLayout, Planned, Measured, Ordered, Uncleared}
 use Rattle.format.proofs.Over.{over-all, over-behind}
 use Rattle.packing.proofs.RunLaws.{formed, limits}
 
@@ -153,18 +153,18 @@ module _ {t order work : List ℕ} {z : Sizes} (o : Ordered t order work z) wher
       }
 
   -- the layout, by the numbers that code has
-  pub laid-out : {lay : Layout} {k : ℕ} → lay ≡ layout (n + (m + c) + 1) n c (m + c - n) k → k ≡ length (markedNodes (walk g .trits) (walk g .shadows)) → lay ≡ layoutOf g
-  unfolding layoutOf
+  pub laid-out : {lay : Layout} {k : ℕ} → lay ≡ layout (n + (m + c) + 1) n c (m + c - n) k → k ≡ length (markedNodes (walk g .trits) (walk g .shadows)) → lay ≡ graphLayout g
+  unfolding graphLayout
   laid-out e q =
       let a : m + c - n ≡ length (walk g .shadows) = omega (arith, totals .shadows) in
       e ∙ (λ i. layout (totals .trits i) (sym (s .sized .many) i) (s .roots-are i) (a i) (q i))
 
-  module _ {lay : Layout} (laid : lay ≡ layoutOf g) where
+  module _ {lay : Layout} (laid : lay ≡ graphLayout g) where
     abbrev size : ℕ
     size = lay .at9 + 2 * ((n + 63) / 64)
 
     image-size : size ≡ length (imageOf g)
-    unfolding layoutOf imageOf imageLength
+    unfolding graphLayout imageOf imageLength
     image-size =
         let p = proper-table t g (record { read = s .sized .read; reaches = subst T (sym reaches) tt }) in
         let ts = walk g .trits in
@@ -172,7 +172,7 @@ module _ {t order work : List ℕ} {z : Sizes} (o : Ordered t order work z) wher
         omega (arith, ap (λ (l : Layout). l .at9) laid, length-image ts H (p .paired) (shadow-nodes ts H (p .paired) (p .seen)), totals .ones, s .sized .many)
 
     pub size-small : size ≤ 1000000
-    unfolding layoutOf
+    unfolding graphLayout
     size-small = let f = totals in omega (arith, ap (λ (l : Layout). l .at9) laid, s .sized .many)
 
     pub uncleared-9 : {image : List ℕ} → length image < size → Uncleared t n order work image (Refused ImageTooShort) order work image
@@ -184,7 +184,7 @@ module _ {t order work : List ℕ} {z : Sizes} (o : Ordered t order work z) wher
     }
 
     laid-nodes : lay .nodes ≡ n
-    unfolding layoutOf
+    unfolding graphLayout
     laid-nodes = ap (λ (l : Layout). l .nodes) laid ∙ s .sized .many
 
     module _ {image : List ℕ} (l : size ≤ length image) where

@@ -17,14 +17,14 @@ use Rattle.packing.specs.Stream.{Walked}
 use Rattle.format.specs.Proper.{ProperTrits}
 
 -- the layout of a graph's image
-unfoldable pub layoutOf : Graph → Layout
-layoutOf g =
+unfoldable pub graphLayout : Graph → Layout
+graphLayout g =
     layout (length (walk g .trits)) (nodes g) (length (g .roots)) (length (walk g .shadows)) (length (markedNodes (walk g .trits) (walk g .shadows)))
 
 -- the walk through the table is in the buffer, and the image has room
 pub record Planned (table work : List ℕ) (lay : Layout) (image : List ℕ) : Type 0 where
   pub walked : Walked table (lay .nodes) work
-  pub laid : lay ≡ layoutOf (graphOf table)
+  pub laid : lay ≡ graphLayout (graphOf table)
   pub room : length (imageOf (graphOf table)) ≤ length image
 
 -- lay is the layout of the image of trits and shadows, its roots apart, which no section is placed by; the buffer has room for it

@@ -20,7 +20,7 @@ use Rattle.samples.specs.declared.Counts.{Counts}
 use Rattle.samples.specs.Lent.{TritsIn}
 use Rattle.samples.specs.Samples.{Width, Sampling, far, middle, near, Paced, Counting, Step}
 use Rattle.samples.proofs.SampleLaws.{none, counting-anew, pair-is, paced, step-follows, far-pairs}
-use Rattle.proper.specs.Samples.{Planned, pairHolds}
+use Rattle.proper.specs.Samples.{PairsIn, pairHolds}
 use Rattle.proper.proofs.SecondLaws.{trits-are}
 
 -- ---- the three sections
@@ -31,13 +31,13 @@ numbers-fit middle trits few = fits7 trits
 numbers-fit near trits few = fits8 trits
 
 pub planned : {i step fan width : ℕ} → Sampling i step fan width → (trits part : List ℕ) → length trits ≤ 125536
-    → length part ≡ width * (2 * (length trits / step + 1)) → Planned trits step fan width part
+    → length part ≡ width * (2 * (length trits / step + 1)) → PairsIn trits step fan width part
 planned s trits part few e = record { paced = paced s; full = e; fits = numbers-fit s trits few }
 
 -- what is planned for trits is planned for all that section 1 can hold: there is only one
-pub same-planned : {trits trits′ bs part : List ℕ} {l step fan width : ℕ} → TritsIn trits bs → length trits ≡ l → Planned trits step fan width part
-    → TritsIn trits′ bs → length trits′ ≡ l → Planned trits′ step fan width part
-same-planned {part = part} {step = step} {fan} {width} T e P T′ e′ = subst (λ (ts : List ℕ). Planned ts step fan width part) (sym (trits-are T e) ∙ trits-are T′ e′) P
+pub same-planned : {trits trits′ bs part : List ℕ} {l step fan width : ℕ} → TritsIn trits bs → length trits ≡ l → PairsIn trits step fan width part
+    → TritsIn trits′ bs → length trits′ ≡ l → PairsIn trits′ step fan width part
+same-planned {part = part} {step = step} {fan} {width} T e P T′ e′ = subst (λ (ts : List ℕ). PairsIn ts step fan width part) (sym (trits-are T e) ∙ trits-are T′ e′) P
 
 -- ---- numbers in a section
 
@@ -72,7 +72,7 @@ pub record Passed (trits : List ℕ) (step fan width q : ℕ) (c : Counts) (part
   pub counting : Counting trits step fan q c
   pub right : (k : ℕ) → k < 2 * q → read width (width * k) part ≡ getD (pairs step (lastMultiple (step * fan)) trits) k 0
 
-module _ {trits : List ℕ} {step fan width : ℕ} {part : List ℕ} (P : Planned trits step fan width part) where
+module _ {trits : List ℕ} {step fan width : ℕ} {part : List ℕ} (P : PairsIn trits step fan width part) where
   abbrev own : Paced step fan width
   own = P .paced
 

@@ -10,7 +10,7 @@ use Rattle.format.specs.Image.{pairs, lastMultiple, read}
 use Rattle.samples.specs.Samples.{Paced}
 
 -- part is as long as the pairs of a section of samples, and these fit
-pub record Planned (trits : List ℕ) (step fan width : ℕ) (part : List ℕ) : Type 0 where
+pub record PairsIn (trits : List ℕ) (step fan width : ℕ) (part : List ℕ) : Type 0 where
   pub paced : Paced step fan width
   pub full : length part ≡ width * (2 * (length trits / step + 1))
   pub fits : Below (256 ^ width) (pairs step (lastMultiple (step * fan)) trits)

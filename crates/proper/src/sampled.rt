@@ -14,7 +14,7 @@ ghost use Rattle.format.specs.Trits.{tryteTable};
 ghost use Rattle.format.specs.Image.{bytes, pairs, lastMultiple, read};
 ghost use Rattle.samples.specs.Lent.{TritsIn};
 ghost use Rattle.samples.specs.Samples.{Width};
-ghost use Rattle.proper.specs.Samples.{Planned, pairHolds};
+ghost use Rattle.proper.specs.Samples.{PairsIn, pairHolds};
 
 // Number `i` of a section with so many bytes a number.
 fn number(part: &[u8], width: usize, i: usize) -> usize
@@ -56,7 +56,7 @@ pub fn samples_right(
     fan: usize,
     width: usize,
 ) -> bool
-    requires { ⌜ (now table ≡ tryteTable) × ((trits : List ℕ) × TritsIn trits (now bs) × (length trits ≡ l) × Planned trits step fan width (now part)) ⌝ }
+    requires { ⌜ (now table ≡ tryteTable) × ((trits : List ℕ) × TritsIn trits (now bs) × (length trits ≡ l) × PairsIn trits step fan width (now part)) ⌝ }
     ensures { λ r. ⌜ ((trits : List ℕ) → TritsIn trits (now (bs .entry)) → length trits ≡ l
         → r ≡ same (now (part .entry)) (bytes width (pairs step (lastMultiple (step * fan)) trits))) ⌝ }
 {

@@ -3,7 +3,7 @@ use mathlib.Core.Path.{_≡_}
 use native.Mathlib.Omega.{arith}
 use borrow.Author.Needs.{needs}
 use Rattle.packing.specs.Work.{graphOf}
-use Rattle.packing.specs.Packed.{layoutOf}
+use Rattle.packing.specs.Packed.{graphLayout}
 use Rattle.packing.proofs.PackLaws.{totals, laid-out, size-small, uncleared-9, planned, uncleared-done}
 use Rattle.packing.proofs.pack.put_all.Statement.{statement}
 use Rattle.packing.proofs.pack.put_all.Tie as tie
@@ -12,7 +12,7 @@ use Rattle.packing.proofs.pack.put_all.Tie as tie
 abbrev start : tie.After-count-marked → tie.Start
 start c = c .before .before .before .before .before .before .before
 
-laid : (c : tie.After-lay-out) → c .lay-out .result ≡ layoutOf (graphOf (start (c .before) .args .table .now))
+laid : (c : tie.After-lay-out) → c .lay-out .result ≡ graphLayout (graphOf (start (c .before) .args .table .now))
 laid c = let o = start (c .before) .pre in laid-out o (c .lay-out .ensures) (c .before .count-marked .ensures _ (o .walked .held))
 
 add-uses : tie.Need-add-uses

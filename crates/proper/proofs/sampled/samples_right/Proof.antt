@@ -8,7 +8,7 @@ use borrow.Author.Needs.{needs}
 use lib.ListN.{length}
 use Rattle.samples.specs.Lent.{TritsIn}
 use Rattle.samples.specs.Samples.{Width}
-use Rattle.proper.specs.Samples.{Planned}
+use Rattle.proper.specs.Samples.{PairsIn}
 use Rattle.proper.proofs.PairLaws.{same-planned, Passed, pair-room, passed-none, passed-step, passed-wrong, passed-next, passed-all}
 use Rattle.proper.proofs.sampled.samples_right.Statement.{statement}
 use Rattle.proper.proofs.sampled.samples_right.Tie as tie
@@ -21,7 +21,7 @@ abbrev μ-loop : tie.MeasureT-loop
 μ-loop bs table part l step fan width many last c₀ q₀ c q = last - q
 
 -- the plan is that of all trits that the bytes hold
-plan : (c : tie.Start Inv-loop μ-loop) → let x = c .args in (trits : List ℕ) → TritsIn trits (x .bs .now) → length trits ≡ x .l → Planned trits (x .step) (x .fan) (x .width) (x .part .now)
+plan : (c : tie.Start Inv-loop μ-loop) → let x = c .args in (trits : List ℕ) → TritsIn trits (x .bs .now) → length trits ≡ x .l → PairsIn trits (x .step) (x .fan) (x .width) (x .part .now)
 plan c trits T n = let t = c .pre .1 in same-planned (t .1) (t .2) (t .3) T n
 
 -- the pair of this turn lies in the section
