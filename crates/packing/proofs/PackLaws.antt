@@ -46,16 +46,16 @@ refused t f e = go (readTable t) e
     go (graph g) e = absurd (let z : _≡_ {A = ℕ} 0 1 = cc in omega arith)
 
 -- a table whose sizes were read
-pub scanned : {t : List ℕ} {z : Sizes} → inl (z .nodes, z .edges, z .roots) ≡ sizesOf (readTable t) → Measured t z
+pub scanned : {t : List ℕ} {z : Sizes} → inl z ≡ sizesOf (readTable t) → Measured t z
 unfolding graphOf
 scanned {t} {z} e = go (readTable t) refl e
   where
-    go : (r : Read) → readTable t ≡ r → inl (z .nodes, z .edges, z .roots) ≡ sizesOf r → Measured t z
+    go : (r : Read) → readTable t ≡ r → inl z ≡ sizesOf r → Measured t z
     go (faulty f) q e = absurd (let z : _≡_ {A = ℕ} 0 1 = cc in omega arith)
     go (graph g) q e =
         let is : graphOr (readTable t) ≡ g = ap graphOr q in
-        let p : _≡_ {A = ℕ × ℕ × ℕ} (z .nodes, z .edges, z .roots) (nodes g, edges g, length (g .roots)) = cc in
-        record { sized = record { read = q ∙ ap graph (sym is); many = rw is (λ i. sym p i .0) }; edges-are = rw is (λ i. p i .1); roots-are = rw is (λ i. p i .2) }
+        let p : z ≡ record { nodes = nodes g; edges = edges g; roots = length (g .roots) } = cc in
+        record { sized = record { read = q ∙ ap graph (sym is); many = rw is (λ i. sym p i .nodes) }; edges-are = rw is (λ i. p i .edges); roots-are = rw is (λ i. p i .roots) }
 
 -- the count of roots stands after n, n counts and m operands
 pub roots-at : {t : List ℕ} {n : ℕ} → Sized t n → startOf (graphOf t) n ≡ 1 + n + edges (graphOf t)

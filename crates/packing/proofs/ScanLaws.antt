@@ -192,11 +192,11 @@ module _ (t : List ℕ) (n at : ℕ) (os : List (List ℕ)) (l : Lists n at os t
         go (got rs []) e = let z : p ≡ length t - 0 = cc in absurd (omega arith)
         go (got rs (w ∷ ws)) e = refl
 
-    pub ending-done : (p : ℕ) → inl p ≡ stepOf t roots → length t ≤ p → inl (n, at - n - 1, p - at - 1) ≡ sizesOf (readTable t)
+    pub ending-done : (p : ℕ) → inl p ≡ stepOf t roots → length t ≤ p → inl (record { nodes = n; edges = at - n - 1; roots = p - at - 1 }) ≡ sizesOf (readTable t)
     unfolding readTable
     ending-done p e b = go roots rooted e
       where
-        go : (r : Got (List ℕ)) → readGraph t ≡ withRoots os r → inl p ≡ stepOf t r → inl (n, at - n - 1, p - at - 1) ≡ sizesOf (wholeTable (readGraph t))
+        go : (r : Got (List ℕ)) → readGraph t ≡ withRoots os r → inl p ≡ stepOf t r → inl (record { nodes = n; edges = at - n - 1; roots = p - at - 1 }) ≡ sizesOf (wholeTable (readGraph t))
         go (stopped g) q e = absurd (let z : _≡_ {A = ℕ} 0 1 = cc in omega arith)
         go (got rs (w ∷ ws)) q e = let z : p ≡ length t - suc (length ws) = cc in absurd (omega arith)
         go (got rs []) q e =
@@ -205,4 +205,4 @@ module _ (t : List ℕ) (n at : ℕ) (os : List (List ℕ)) (l : Lists n at os t
             let lw = ap length (words-read t g (ap wholeTable q) .0) ∙ length-words g in
             let em : at - n - 1 ≡ edges g = omega (arith, l .ends) in
             let ec : p - at - 1 ≡ length rs = omega (arith, l .ends, l .many) in
-            rw q (λ i. inl (sym (l .many) i, em i, ec i))
+            rw q (λ i. inl (record { nodes = sym (l .many) i; edges = em i; roots = ec i }))

@@ -9,6 +9,7 @@ use Rattle.format.specs.Table.{nodes, edges, Got, stopped, got, readGraph, Read
 use Rattle.format.specs.Answers.{refusalNumber}
 use Rattle.packing.specs.declared.table.Step.{Step}
 use Rattle.packing.specs.declared.table.Step.the-variants.{At, Bad}
+use Rattle.packing.specs.declared.table.Sizes.{Sizes}
 use Rattle.packing.specs.declared.table.Scanned.{Scanned}
 use Rattle.packing.specs.declared.table.Scanned.the-variants.{Sound, Fault}
 
@@ -23,13 +24,13 @@ stepOf table (stopped f) = inr f
 stepOf table (got x ws) = inl (length table - length ws)
 
 -- n, m and c, or the number of a fault
-abbrev pub sizes : Scanned → (ℕ × ℕ × ℕ) ⊎ ℕ
-sizes (Sound s) = inl (s .nodes, s .edges, s .roots)
+abbrev pub sizes : Scanned → Sizes ⊎ ℕ
+sizes (Sound s) = inl s
 sizes (Fault r) = inr (refusalNumber r)
 
-abbrev pub sizesOf : Read → (ℕ × ℕ × ℕ) ⊎ ℕ
+abbrev pub sizesOf : Read → Sizes ⊎ ℕ
 sizesOf (faulty f) = inr f
-sizesOf (graph g) = inl (nodes g, edges g, length (g .roots))
+sizesOf (graph g) = inl (record { nodes = nodes g; edges = edges g; roots = length (g .roots) })
 
 -- n and operand lists of n nodes are read; the roots are read next, from place `at` on
 pub record Lists (n at : ℕ) (os : List (List ℕ)) (table : List ℕ) : Type 0 where
