@@ -15,8 +15,8 @@ use Rattle.format.proofs.Sizes.{length-bytes, length-grouped, length-markWords,
 use Rattle.format.proofs.CheckLaws.{shadow-nodes}
 use Rattle.samples.proofs.SampleLaws.{far-section}
 use Rattle.trits.specs.declared.Layout.{Layout}
-use Rattle.trits.specs.Layout.{layout}
-use Rattle.proper.specs.Examined.{laying, Sized, Through, Counted, givenFrom}
+use Rattle.trits.specs.Layout.{layout, laying}
+use Rattle.proper.specs.Examined.{Sized, Through, Counted, givenFrom}
 use Rattle.samples.specs.Samples.{Sampling, far, middle, near, sampleSection}
 use Rattle.proper.proofs.OpenLaws.{Front, given-room, first-refused, first-passed}
 

@@ -20,13 +20,13 @@ use Rattle.format.proofs.Steps.{checker-gives}
 use Rattle.format.proofs.OneToOne.{refusal-some}
 use Rattle.samples.specs.Lent.{TritsIn}
 use Rattle.trits.specs.declared.Layout.{Layout}
-use Rattle.trits.specs.Layout.{layoutOf}
+use Rattle.trits.specs.Layout.{layoutOf, laying}
 use Rattle.proper.specs.declared.check.Examined.{Examined}
 use Rattle.proper.specs.declared.check.Examined.the-variants.{Proper, Refused}
 use Rattle.proper.specs.declared.first.First.the-variants.{Sizes}
 use Rattle.proper.specs.FirstSays.{FirstSays}
 use Rattle.proper.specs.Known.{Known}
-use Rattle.proper.specs.Examined.{Examines, opens, shadows2, check2, FirstPassed, laying}
+use Rattle.proper.specs.Examined.{Examines, opens, shadows2, check2, FirstPassed}
 use Rattle.proper.proofs.OpenLaws.{opens-then}
 
 pub examines-as : {x y : ℕ} {u v : Layout} (r : Examined) → x ≡ y → u ≡ v → Examines x u r → Examines y v r

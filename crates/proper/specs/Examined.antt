@@ -7,12 +7,12 @@ use lib.ListN.{length, drop}
 use Rattle.format.specs.Faults.{fault, _then_}
 use Rattle.format.specs.Lists.{countIn, up}
 use Rattle.format.specs.Trits.{untrytes}
-use Rattle.format.specs.Image.{fromBytes, nodeCount, rootCount, markedNodes, Section, given}
+use Rattle.format.specs.Image.{fromBytes, nodeCount, rootCount, Section, given}
 use Rattle.format.specs.Proper.{countOf, contentsOf, restOf, sectionFault, size2, fault2, contentsFault1, checkGiven}
 use Rattle.format.specs.Answers.{refusalNumber}
 use Rattle.samples.specs.Lent.{TritsIn}
 use Rattle.trits.specs.declared.Layout.{Layout}
-use Rattle.trits.specs.Layout.{layout}
+use Rattle.trits.specs.Layout.{laying}
 use Rattle.proper.specs.declared.check.Examined.{Examined}
 use Rattle.proper.specs.declared.check.Examined.the-variants.{Proper, Refused}
 use Rattle.proper.specs.Known.{Known, Marked}
@@ -49,10 +49,6 @@ pub record FirstPassed (bs : List ℕ) (l n c k : ℕ) : Type 0 where
   pub full : length bs ≡ up l 5
   pub passed : contentsFault1 l bs ≡ 0
   pub sized : Sized (untrytes l bs) l n c k
-
--- the layout of the image of trits and shadows
-abbrev pub laying : List ℕ → List ℕ → Layout
-laying trits H = layout (length trits) (nodeCount trits) (rootCount trits) (length H) (length (markedNodes trits H))
 
 -- sections 1, 2 and 3 have passed: their contents, and the layout of the image
 pub record Through (trits H bs hs marks : List ℕ) (lay : Layout) : Type 0 where

@@ -17,10 +17,10 @@ ghost use Rattle.format.specs.Image.{bytes, nodeCount, markedNodes, starts, giv
 ghost use Rattle.format.specs.Proper.{contentsOf, restOf, givenFault, checkGiven, checkImage};
 ghost use Rattle.format.specs.Answers.{refusalNumber, checkedNumber};
 ghost use Rattle.samples.specs.Lent.{TritsIn};
-ghost use Rattle.trits.specs.Layout.{layoutOf};
+ghost use Rattle.trits.specs.Layout.{layoutOf, laying};
 ghost use Rattle.proper.specs.Known.{Known, Shadowed, Marked};
 ghost use Rattle.samples.specs.Samples.{Sampling, sampleSection};
-ghost use Rattle.proper.specs.Examined.{Examines, opens, laying, FirstPassed, Sized, Through, Counted, givenFrom, check2, shadows2};
+ghost use Rattle.proper.specs.Examined.{Examines, opens, FirstPassed, Sized, Through, Counted, givenFrom, check2, shadows2};
 
 // The layout of a proper image, or the refusal.
 pub enum Examined {

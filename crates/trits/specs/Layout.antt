@@ -29,8 +29,12 @@ layout L n c k h =
       at9 = before zs 8 + 4;
     }
 
+-- the layout of the image of trits and shadows
+abbrev pub laying : List ℕ → List ℕ → Layout
+laying trits H = layout (length trits) (nodeCount trits) (rootCount trits) (length H) (length (markedNodes trits H))
+
 unfoldable pub layoutOf : List ℕ → Layout
-layoutOf b = layout (length (tritsOf b)) (nodeCount (tritsOf b)) (rootCount (tritsOf b)) (length (shadowsOf b)) (length (markedNodes (tritsOf b) (shadowsOf b)))
+layoutOf b = laying (tritsOf b) (shadowsOf b)
 
 -- b is a proper image, and lay its layout
 pub record Laid (b : List ℕ) (lay : Layout) : Type 0 where

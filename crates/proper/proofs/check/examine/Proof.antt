@@ -10,8 +10,9 @@ use Rattle.format.specs.Trits.{untrytes}
 use Rattle.format.specs.Proper.{countOf, contentsOf, restOf, size1, tritsOf, contentsFault1, fault1, SectionGives}
 use Rattle.format.specs.declared.Refusal.the-variants.{ImageEnds, ImageTooLarge, TritsWrong}
 use Rattle.format.proofs.Steps.{checker-gives}
+use Rattle.trits.specs.Layout.{laying}
 use Rattle.proper.specs.FirstSays.{FirstSays}
-use Rattle.proper.specs.Examined.{laying, shadows2, check2, FirstPassed}
+use Rattle.proper.specs.Examined.{shadows2, check2, FirstPassed}
 use Rattle.proper.proofs.PassedLaws.{examines-as, refused-1, missing-1, passed-1, laid-out, first-passed-is}
 use Rattle.proper.proofs.check.examine.Statement.{statement}
 use Rattle.proper.proofs.check.examine.Tie as tie

@@ -13,8 +13,9 @@ use Rattle.format.specs.Answers.{checkedNumber}
 use Rattle.format.specs.Lists.{Below}
 use Rattle.format.proofs.Laws.{count-le}
 use Rattle.format.proofs.CheckLaws.{below-contents}
+use Rattle.trits.specs.Layout.{laying}
 use Rattle.proper.specs.Known.{Known}
-use Rattle.proper.specs.Examined.{opens, laying}
+use Rattle.proper.specs.Examined.{opens}
 use Rattle.proper.proofs.OpenLaws.{opens-room}
 use Rattle.proper.proofs.PassedLaws.{examines-as, first-trits, first-known, shadows-2, second-refused, second-wrong, second-passed}
 use Rattle.proper.proofs.check.from2.Statement.{statement}
