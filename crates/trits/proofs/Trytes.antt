@@ -5,7 +5,7 @@ use native.Mathlib.Omega.{arith}
 use native.Mathlib.Decide.{decLe}
 use mathlib.Core.Path.{_≡_, refl, sym, ap, _∙_}
 use mathlib.Core.Bool.{Bool, true, _&&_, cond}
-use mathlib.Core.List.{List}
+use mathlib.Core.List.{List, [], _∷_}
 use lib.Dec.{eqb, ltb, lit<, lit≤}
 use lib.ListN.{length, getD, drop}
 use lib.Seq.{getD-take, getD-drop}
@@ -82,7 +82,14 @@ unfolding cut-right
 cut-entry x r h l =
     eqb-true _ _ (every-from (λ r. eqb (getD tryteTable (x % 3 ^ r) 0) (tryteCount 0 x r + (5 - r) + 8 * tryteCount 1 x r)) 5 (every-from cut-right 243 all-cut x h) r l)
 
--- a product in place of a division, for every byte
+-- the powers of three, and the numbers that a product with takes the place of a division by them
+pub powers : (r : ℕ) → r < 5 → getD (1 ∷ 3 ∷ 9 ∷ 27 ∷ 81 ∷ []) r 0 ≡ 3 ^ r
+powers r l = eqb-true _ _ (every-from (λ r. eqb (getD (1 ∷ 3 ∷ 9 ∷ 27 ∷ 81 ∷ []) r 0) (3 ^ r)) 5 refl r l)
+
+pub inverses : (r : ℕ) → r < 5 → getD (65537 ∷ 21846 ∷ 7282 ∷ 2428 ∷ 810 ∷ []) r 0 ≡ 65536 / 3 ^ r + 1
+inverses r l = eqb-true _ _ (every-from (λ r. eqb (getD (65537 ∷ 21846 ∷ 7282 ∷ 2428 ∷ 810 ∷ []) r 0) (65536 / 3 ^ r + 1)) 5 refl r l)
+
+-- the product is the quotient, for every byte
 rest-right : ℕ → Bool
 rest-right x = every (λ r. eqb (x * (65536 / 3 ^ r + 1) / 65536) (x / 3 ^ r)) (run 0 5)
 

@@ -1,8 +1,9 @@
-// The five trits of one tryte, by the table and by division.
+// The five trits of one tryte, by the table and one by one.
 use crate::Ranks;
 use little::wide;
 ghost use mathlib.Core.Path.{_≡_};
-ghost use Prim.Native.Nat.{_*_, _+_, _/_, _%_, _^_, _≤_, _<_};
+ghost use mathlib.Core.List.{[], _∷_};
+ghost use Prim.Native.Nat.{_+_, _*_, _/_, _%_, _^_, _≤_, _<_};
 ghost use lib.ListN.{length, getD};
 ghost use Rattle.format.specs.Lists.{spread};
 ghost use Rattle.format.specs.Trits.{tryteCount, tryteTable};
@@ -262,34 +263,35 @@ pub fn tryte_table() -> [u8; 243]
     TABLE
 }
 
-// 3 to the power `r`. The last arm is never reached: with it the others are a table, and no branch is to be guessed.
-fn power(r: usize) -> usize
+// Value number `r` of five. The last arm is never reached: with it the others are a table, and no branch is to be guessed.
+fn one_of(r: usize, a: usize, b: usize, c: usize, d: usize, e: usize) -> usize
     requires { ⌜ r < 5 ⌝ }
-    ensures { λ w. ⌜ w ≡ 3 ^ r ⌝ }
+    ensures { λ v. ⌜ v ≡ getD (a ∷ b ∷ c ∷ d ∷ e ∷ []) r 0 ⌝ }
 {
     match r {
-        0 => 1,
-        1 => 3,
-        2 => 9,
-        3 => 27,
-        4 => 81,
+        0 => a,
+        1 => b,
+        2 => c,
+        3 => d,
+        4 => e,
         _ => 0,
     }
 }
 
-// A little more than 65,536 / 3^r, in the same way.
+// 3 to the power `r`.
+fn power(r: usize) -> usize
+    requires { ⌜ r < 5 ⌝ }
+    ensures { λ w. ⌜ w ≡ 3 ^ r ⌝ }
+{
+    one_of(r, 1, 3, 9, 27, 81)
+}
+
+// A little more than 65,536 / 3^r.
 fn inverse(r: usize) -> usize
     requires { ⌜ r < 5 ⌝ }
     ensures { λ m. ⌜ m ≡ 65536 / 3 ^ r + 1 ⌝ }
 {
-    match r {
-        0 => 65537,
-        1 => 21846,
-        2 => 7282,
-        3 => 2428,
-        4 => 810,
-        _ => 0,
-    }
+    one_of(r, 65537, 21846, 7282, 2428, 810)
 }
 
 // Tryte `x` without its first `r` trits. By a product: a division by a power that changes from call to call is slow.

@@ -1,15 +1,8 @@
--- `trits::digits::power` meets its contract: one arm a power. Assumes nothing.
-use native.Mathlib.Omega.{arith}
-use mathlib.Core.Path.{refl}
+-- `trits::digits::power` meets its contract, by `powers`. Assumes nothing.
+use mathlib.Core.Path.{_∙_}
+use Rattle.trits.proofs.Trytes.{powers}
 use Rattle.trits.proofs.digits.power.Statement.{statement}
 use Rattle.trits.proofs.digits.power.Tie as tie
 
 pub power-spec : {M : Type 1} → statement M
-power-spec =
-    tie.close (tie.spec
-    (λ c. rw (c .match .keys1) refl)
-    (λ c. rw (c .match .keys2) refl)
-    (λ c. rw (c .match .keys3) refl)
-    (λ c. rw (c .match .keys4) refl)
-    (λ c. rw (c .match .keys5) refl)
-    (λ c. absurd (omega arith)))
+power-spec = tie.close (tie.spec (λ c κs. c .pre) (λ c. c .one-of .ensures ∙ powers (c .before .args .r) (c .before .pre)))
