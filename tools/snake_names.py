@@ -17,7 +17,7 @@ APART = {"bothRight", "bytesLow"}
 
 WORD = r"[^\s(){}\[\],;.`]"
 DECLARED = re.compile(r"^\s*((?:pub |abbrev |unfoldable )*)([^\s:(){}]+(?: [^\s:(){}]+)*) :(?: |$)")
-MADE = re.compile(r"(-spec|-requires|-again|-preserved|-init|-smaller)(-\d+)?$|^(returns|loop|invariant|decreases|overflow|ghost)(-|$)|^\+")
+MADE = re.compile(r"(-spec|-requires|(?<!unpacked)-again|-preserved|-init|-smaller)(-\d+)?$|^(returns|loop|invariant|decreases|overflow|ghost)(-|$)|^\+")
 
 
 def files(root, endings):

@@ -1,4 +1,6 @@
 // One question about a proper image, and batches of them.
+#![tactic(auto)]
+
 pub mod batch;
 pub mod index;
 pub mod question;

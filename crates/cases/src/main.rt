@@ -1,5 +1,7 @@
 // The buyer's rules, run: a line for each case of "Both sides of each line" that is not proved alone, for each refusal, and for each error seen in packers,
 // compared with the file stdout. Work is lent full of sevens, so that a line can say how many of its words became zero and how many stayed.
+#![tactic(auto)]
+
 ghost use Rattle.std.specs.Prelude.{◌≡◌, ◌<◌};
 
 use format::{Checked, Packed, Refusal, Tally, Unpacked};

@@ -193,8 +193,8 @@ module _ (table : List ℕ) (g : Graph) (a : Accepted table g) where
       ≡ record { returned = done (length (words (renumbered g (level_order g)))); table = over (words (renumbered g (level_order g))) buffer }
   unpacking buffer = promises.unpacking table buffer g a
 
-  pub unpacked-again : Accepted (words (renumbered g (level_order g))) (renumbered g (level_order g)) × (image_of (renumbered g (level_order g)) ≡ image_of g)
-  unpacked-again = promises.unpacked-again table g a
+  pub unpacked_again : Accepted (words (renumbered g (level_order g))) (renumbered g (level_order g)) × (image_of (renumbered g (level_order g)) ≡ image_of g)
+  unpacked_again = promises.unpacked_again table g a
 
   -- "Listed operands and users are the table's own edges, carried through the order list, operands in their order, each occurrence once."
   pub operands_listed : (i : ℕ) → 1 ≤ i → map operand_of (operand_edges trits H i) ≡ operands_at g i

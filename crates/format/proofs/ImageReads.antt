@@ -3,7 +3,7 @@
 use Prim.Native.Nat.{ℕ, zero, suc, ◌+◌, ◌-◌, ◌*◌, ◌/◌, ◌%◌, ◌^◌, ◌≤◌, ◌<◌, zero-le, suc-le-suc}
 use native.Mathlib.Nat.{zero-add, one-mul, le_of_suc-le-suc, not-suc-le-zero, mul-suc, mul-le-mul_left, mod-lt}
 use native.Mathlib.Omega.{arith}
-use mathlib.Core.Path.{◌≡◌, refl, sym, ap}
+use mathlib.Core.Path.{◌≡◌, refl, sym, ap, subst}
 use mathlib.Core.Bool.{Bool, true, false}
 use mathlib.Core.List.{List, [], ◌∷◌, ◌++◌, map}
 use lib.Dec.{eqb, lit<}
@@ -96,7 +96,9 @@ module _ {s : Section} {us : List Uniform} {zs b : List ℕ} (S : Sectioned s us
     behind =
         let ss : List Section = s ∷ map section_of us in
         let l : suc k < length ss = omega (arith, length-map us section_of) in
-        rw (S.is, ← S.sized, ← drop-drop, written_drop ss (suc k) (omega arith), drop-cons ss (suc k) nothing, get_or-map section_of us k empty, fitting.0)
+        let past : drop (before zs (suc k)) b ≡ written (drop (suc k) ss) =
+            subst (λ (z : List ℕ). drop (before z (suc k)) b ≡ written (drop (suc k) ss)) S.sized (rw S.is (written_drop ss (suc k) (omega arith))) in
+        rw (← drop-drop, past, drop-cons ss (suc k) nothing, get_or-map section_of us k empty, fitting.0)
 
     pub number_inside : (i : ℕ) → i < length u.numbers → start + u.width * i + u.width ≤ length b
     number_inside i l =

@@ -42,6 +42,7 @@ module _ {A : Type 0} (P : A → Type 0) where
   all_imp Q (x ∷ xs) f a = (f x a.0, all_imp Q xs f a.1)
 
   pub all_mem : {x : A} (xs : List A) → All P xs → Memᴰ x xs → P x
+  all_mem [] a m = elim m [ ]
   all_mem (y ∷ xs) a (Memᴰ.head e) = rw e a.0
   all_mem (y ∷ xs) a (Memᴰ.tail m) = all_mem xs a.1 m
 
@@ -242,7 +243,7 @@ pub complete : (xs ys : List ℕ) → Nodup xs → All (λ x. Memᴰ x ys) xs �
 complete [] ys n a = (ys, Permᴰ.refl ys)
 complete (x ∷ xs) ys n a =
     let c = cut_at a.0 in
-    let ih = complete xs (c.0 ++ c.1) n.1 (all_without x c.0 c.1 xs n.0 (rw c.2 at a.1)) in
+    let ih = complete xs (c.0 ++ c.1) n.1 (all_without x c.0 c.1 xs n.0 (subst (λ (l : List ℕ). All (λ y. Memᴰ y l) xs) c.2 a.1)) in
     (ih.0, subst (λ (l : List ℕ). Permᴰ (x ∷ xs ++ ih.0) l) (sym c.2) (Permᴰ.trans (Permᴰ.cons refl ih.1) (Permᴰ.symm (Permᴰ.middle x c.0 c.1))))
 
 pub perm_length : {A : Type 0} {xs ys : List A} → Permᴰ xs ys → length xs ≡ length ys

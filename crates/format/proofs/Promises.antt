@@ -145,10 +145,10 @@ unpacking table buffer g a h =
     unpack_done (image_of g) buffer (checker_passes table g a) (subst (λ (x : List ℕ). length x ≤ length buffer) (sym e) h)
     ∙ ap (λ (x : List ℕ). record { returned = done (length x); table = over x buffer }) e
 
-pub unpacked-again : (table : List ℕ) (g : Graph) → Accepted table g
+pub unpacked_again : (table : List ℕ) (g : Graph) → Accepted table g
     → Accepted (words (renumbered g (level_order g))) (renumbered g (level_order g)) × (image_of (renumbered g (level_order g)) ≡ image_of g)
 unfolding image_of
-unpacked-again table g a =
+unpacked_again table g a =
     let p = proper_table table g a in
     subst (λ (x : Graph). Accepted (words x) x × (image_of x ≡ image_of g)) (unpacked g (packable table g a))
     (scanned_accepted (walk g).trits (walk g).shadows p, scanned_image (walk g).trits (walk g).shadows p)

@@ -1,5 +1,7 @@
 // The entries as C and Rust call them. A slice is a pointer and a length in elements; an answer of two numbers is one word,
 // refusal * 2^32 + value. The proofs assume that lent slices lie apart; one of length 0 may have a dangling pointer.
+#![tactic(auto)]
+
 ghost use Rattle.std.specs.Prelude.{◌≡◌, ◌*◌};
 ghost use Rattle.format.specs.Answers.{refusal_number};
 ghost use Rattle.format.specs.Batch.{batch_outcome};

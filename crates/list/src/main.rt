@@ -1,4 +1,6 @@
 // The listing program: reads a table from standard input, and writes its listing, or its refusal.
+#![tactic(auto)]
+
 use libc::{STDIN_FILENO, STDOUT_FILENO};
 
 fn main() {

@@ -1,4 +1,6 @@
 // The text of the listing program.
+#![tactic(auto)]
+
 mod lines;
 mod text;
 

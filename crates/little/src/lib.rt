@@ -1,4 +1,6 @@
 // Numbers of 1, 2, 4 and 8 bytes in a lent slice of bytes, low byte first. Each width is two of the half width.
+#![tactic(auto)]
+
 ghost use Rattle.std.specs.Prelude.{◌≡◌, ◌+◌, ◌≤◌, ◌<◌, length};
 ghost use Rattle.format.specs.Image.{le_bytes, read};
 ghost use Rattle.little.specs.Put.{put_at};

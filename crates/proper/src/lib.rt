@@ -1,4 +1,6 @@
 // The checker of images: a function for each section, one for sections 4 and 5 together, and one for 6, 7 and 8.
+#![tactic(auto)]
+
 pub mod check;
 pub mod first;
 pub mod marked;

@@ -1,5 +1,7 @@
 // The layout of a proper image, and rank on it: three levels of samples, then trytes, then trits.
 // A tryte is five trits in a byte; a block is 25 trits, five trytes.
+#![tactic(auto)]
+
 pub mod digits;
 pub mod search;
 

@@ -1,5 +1,7 @@
 // The unpacker: an image's table, in level order, into a lent table. One pass over the trits from the first zero on; each has one word of the
 // table, and after them come the roots.
+#![tactic(auto)]
+
 ghost use Rattle.std.specs.Prelude.{◌≡◌, ◌+◌, ◌-◌, ◌≤◌, ◌<◌, length, set};
 ghost use Rattle.format.specs.Lists.{one_to, over};
 ghost use Rattle.format.specs.Proper.{trits_of, shadows_of};

@@ -9,7 +9,7 @@ returns : tie.Need-returns
 returns c =
     let low = c.before.before.before.before.before.before in
     let x = low.before.before.before.args in
-    put_add 1 1 x.at x.n x.s.now (omega arith) low.put1.ensures c.before.before.put12.ensures
+    put_add 1 1 x.at x.n x.s.now (omega arith) low.put1.ensures c.before.before.put1-2.ensures
 
 pub put2-spec : {M : Type 1} → statement M
 put2-spec = tie.close (tie.spec (λ c κs. search rules) (λ c. search rules) (λ c κs. search rules) (λ c. search rules) returns)

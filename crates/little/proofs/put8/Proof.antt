@@ -9,7 +9,7 @@ returns : tie.Need-returns
 returns c =
     let low = c.before.before.before.before.before.before in
     let x = low.before.before.before.args in
-    put_add 4 4 x.at x.n x.s.now (omega arith) low.put4.ensures c.before.before.put42.ensures
+    put_add 4 4 x.at x.n x.s.now (omega arith) low.put4.ensures c.before.before.put4-2.ensures
 
 pub put8-spec : {M : Type 1} → statement M
 put8-spec = tie.close (tie.spec (λ c κs. search rules) (λ c. search rules) (λ c κs. search rules) (λ c. search rules) returns)
