@@ -16,14 +16,14 @@ use proper::check::Examined;
 use trits::Layout;
 
 // What a batch answers, and what becomes of the tally.
-#[derive(Drop)]
+#[derive(Clone, Copy)]
 pub struct Batched {
     pub asked: format::Asked,
     pub tally: format::Tally,
 }
 
 // The same, with the answer as its number.
-#[derive(Drop)]
+#[derive(Clone, Copy)]
 pub struct Done {
     pub code: u32,
     pub tally: format::Tally,

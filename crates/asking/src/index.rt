@@ -10,7 +10,7 @@ use little::{get2, get4, get8};
 use trits::Layout;
 
 // A node's group in section 5: from entry `first` up to entry `next`.
-#[derive(Drop)]
+#[derive(Clone, Copy)]
 pub struct Group {
     pub first: usize,
     pub next: usize,

@@ -5,7 +5,7 @@ ghost use Rattle.packing.specs.Work.{graph_of, start_of};
 ghost use Rattle.packing.specs.Stream.{Walked, Rest, Standing, Stepped, Took};
 
 // i rows are ended; `left` operands of the row are left, from `at` on in the table; `ones` ones are written.
-#[derive(Drop)]
+#[derive(Clone, Copy)]
 pub struct Cursor {
     pub i: usize,
     pub at: usize,
@@ -14,7 +14,7 @@ pub struct Cursor {
 }
 
 // The next trit, with the cursor after it: 0 at a row's end, 1 for a real operand, 2 for a shadow, with its level number.
-#[derive(Drop)]
+#[derive(Clone, Copy)]
 pub enum Trit {
     End(Cursor),
     Real(Cursor),
@@ -103,7 +103,7 @@ pub fn step(table: &[u16], work: &[u32], n: usize, c: Cursor) -> Trit
 }
 
 // Trits as a number, and the cursor after them.
-#[derive(Drop)]
+#[derive(Clone, Copy)]
 pub struct Next {
     pub value: usize,
     pub cursor: Cursor,

@@ -7,14 +7,14 @@ ghost use Rattle.marks.specs.Bits.{bit_of};
 use marks::with_mark;
 
 // The place after what was read, or the fault.
-#[derive(Drop)]
+#[derive(Clone, Copy)]
 pub enum Step {
     At(usize),
     Bad(format::Refusal),
 }
 
 // The sizes of a table: n, m and c.
-#[derive(Drop)]
+#[derive(Clone, Copy)]
 pub struct Sizes {
     pub nodes: usize,
     pub edges: usize,
@@ -22,7 +22,7 @@ pub struct Sizes {
 }
 
 // The sizes of a table, or its fault.
-#[derive(Drop)]
+#[derive(Clone, Copy)]
 pub enum Scanned {
     Sound(Sizes),
     Fault(format::Refusal),

@@ -16,7 +16,7 @@ use format::{Checked, FAR, MAX_TRITS, MIDDLE, NEAR, Refusal};
 use little::get4;
 
 // The layout of a proper image, or the refusal.
-#[derive(Drop)]
+#[derive(Clone, Copy)]
 pub enum Examined {
     Proper(trits::Layout),
     Refused(Refusal),
@@ -112,7 +112,7 @@ fn sample_section(
 }
 
 // How section 6, 7 or 8 counts: trits from sample to sample, steps until counting begins anew (in section 6 two, which no image reaches), bytes a number.
-#[derive(Drop)]
+#[derive(Clone, Copy)]
 struct Plan {
     step: usize,
     fan: usize,

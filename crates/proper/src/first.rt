@@ -11,7 +11,7 @@ use little::wide;
 use trits::digits::{trit, tryte_count};
 
 // The sizes that section 1 gives, or its refusal.
-#[derive(Drop)]
+#[derive(Clone, Copy)]
 pub enum First {
     Wrong(format::Refusal),
     Sizes {
@@ -22,14 +22,14 @@ pub enum First {
 }
 
 // A number that the trits give, or they break a rule.
-#[derive(Drop)]
+#[derive(Clone, Copy)]
 pub enum Given {
     Number(usize),
     Broken,
 }
 
 // A place, and the zeros and ones before it.
-#[derive(Drop)]
+#[derive(Clone, Copy)]
 struct Count {
     zeros: usize,
     ones: usize,

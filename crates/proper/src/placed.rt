@@ -12,7 +12,7 @@ use little::{get2, get4, wide};
 use trits::digits::{trit, tryte_count, tryte_cut};
 
 // An entry of section 5: wrong, or its key.
-#[derive(Drop)]
+#[derive(Clone, Copy)]
 enum Entry {
     Wrong,
     Key(usize),

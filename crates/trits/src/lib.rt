@@ -17,7 +17,7 @@ use format::{FAR, MIDDLE, NEAR};
 use little::{get1, get2, get4, wide};
 
 // L, n, c, k and h, and where the contents of each section start.
-#[derive(Drop)]
+#[derive(Clone, Copy)]
 pub struct Layout {
     pub trits: usize,
     pub nodes: usize,
@@ -37,7 +37,7 @@ pub struct Layout {
 
 // A level of samples: pairs, zeros then ones, of `width` bytes a number from byte `at` on, before multiples 0 to `last` of `step`, each counted
 // from the last multiple of `fan` steps.
-#[derive(Drop)]
+#[derive(Clone, Copy)]
 pub struct Samples {
     pub at: usize,
     pub width: usize,
@@ -47,14 +47,14 @@ pub struct Samples {
 }
 
 // The zeros and ones before a place, or in part of a tryte.
-#[derive(Drop)]
+#[derive(Clone, Copy)]
 pub struct Ranks {
     pub zeros: usize,
     pub ones: usize,
 }
 
 // Multiple `at` of a step, and how many of a trit stand before it.
-#[derive(Drop)]
+#[derive(Clone, Copy)]
 pub struct Spot {
     pub at: usize,
     pub before: usize,

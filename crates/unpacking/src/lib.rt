@@ -15,7 +15,7 @@ use little::get2;
 use proper::check::Examined;
 
 // The ones and the twos before a place, and the place of the last zero, whose word awaits the count of its operands.
-#[derive(Drop)]
+#[derive(Clone, Copy)]
 struct Stand {
     ones: usize,
     twos: usize,

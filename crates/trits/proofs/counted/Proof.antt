@@ -15,20 +15,20 @@ low c = last_few c.requires.0
 first_le : (c : tie.Start) → c.args.first ≤ c.args.q
 first_le c = omega (arith, div-add-mod c.args.q c.args.s.fan)
 
-returns : tie.Need-returns
+returns : tie.Need-returns-then-t-lt2
 returns c =
     let x = c.before.before.before in
-    rw c.entry.ensures (x.requires.0.sample x.args.t x.args.first x.args.q c.before.if1.true x.requires.2 x.requires.3)
+    rw c.entry.ensures (x.requires.0.sample x.args.t x.args.first x.args.q c.before.if-t-lt2.true x.requires.2 x.requires.3)
 
-filled : (c : tie.After-entry3) → let a = c.before.before.before.before.args in Twos a.image.now a.s a.first a.q c.before.entry2.result c.entry3.result
+filled : (c : tie.After-entry-ones) → let a = c.before.before.before.before.args in Twos a.image.now a.s a.first a.q c.before.entry-zeros.result c.entry-ones.result
 filled c =
     let x = c.before.before.before.before in
     let q = x.args.q in
     twos x.requires.0 x.requires.2 (first_le x)
-    (rw (c.before.entry2.ensures, ← add-zero (2 * q)) (x.requires.0.sample 0 x.args.first q (lit< tt) x.requires.2 x.requires.3))
-    (rw c.entry3.ensures (x.requires.0.sample 1 x.args.first q (lit< tt) x.requires.2 x.requires.3))
+    (rw (c.before.entry-zeros.ensures, ← add-zero (2 * q)) (x.requires.0.sample 0 x.args.first q (lit< tt) x.requires.2 x.requires.3))
+    (rw c.entry-ones.ensures (x.requires.0.sample 1 x.args.first q (lit< tt) x.requires.2 x.requires.3))
 
-returns-2 : tie.Need-returns-2
+returns-2 : tie.Need-returns
 returns-2 c = let e : c.before.before.before.before.args.t ≡ 2 = omega arith in rw e (filled c).left
 
 pub counted_spec : {M : Type 1} → statement M

@@ -6,16 +6,16 @@ use Rattle.trits.proofs.Levels.{NumberAt, at_width}
 use Rattle.trits.proofs.entry.Statement.{statement}
 use Rattle.trits.proofs.entry.Tie as tie
 
-one : (c : tie.Then1) → let a = c.before.before.args in NumberAt a.image.now a.s a.i 1 (a.s.at + a.i)
-one c = let x = c.before.before in at_width x.requires.0 x.requires.1 c.if1.true (omega arith)
+one : (c : tie.Then-width-eq1) → let a = c.before.before.args in NumberAt a.image.now a.s a.i 1 (a.s.at + a.i)
+one c = let x = c.before.before in at_width x.requires.0 x.requires.1 c.if-width-eq1.true (omega arith)
 
-two : (c : tie.Then2) → let a = c.before.before.before.args in NumberAt a.image.now a.s a.i 2 (a.s.at + 2 * a.i)
-two c = let x = c.before.before.before in at_width x.requires.0 x.requires.1 c.if2.true (omega arith)
+two : (c : tie.Then-width-eq2) → let a = c.before.before.before.args in NumberAt a.image.now a.s a.i 2 (a.s.at + 2 * a.i)
+two c = let x = c.before.before.before in at_width x.requires.0 x.requires.1 c.if-width-eq2.true (omega arith)
 
-four : (c : tie.Else2) → let a = c.before.before.before.args in NumberAt a.image.now a.s a.i 4 (a.s.at + 4 * a.i)
+four : (c : tie.Else-width-eq2) → let a = c.before.before.before.args in NumberAt a.image.now a.s a.i 4 (a.s.at + 4 * a.i)
 four c =
     let x = c.before.before.before in
-    at_width x.requires.0 x.requires.1 (x.requires.0.widths c.before.if1.false c.if2.false) (omega arith)
+    at_width x.requires.0 x.requires.1 (x.requires.0.widths c.before.if-width-eq1.false c.if-width-eq2.false) (omega arith)
 
 pub entry_spec : {M : Type 1} → statement M
 entry_spec =

@@ -4,5 +4,5 @@ use Rattle.trits.proofs.Trytes.{inverses}
 use Rattle.trits.proofs.digits.inverse.Statement.{statement}
 use Rattle.trits.proofs.digits.inverse.Tie as tie
 
-pub inverse-spec : {M : Type 1} → statement M
-inverse-spec = tie.close (tie.spec (λ c κs. c.requires) (λ c. c.one_of_lem.ensures ∙ inverses c.before.args.r c.before.requires))
+pub inverse_spec : {M : Type 1} → statement M
+inverse_spec = tie.close (tie.spec (λ c κs. c.requires) (λ c. c.one_of.ensures ∙ inverses c.before.args.r c.before.requires))

@@ -15,8 +15,8 @@ returns c =
     let s = c.before in
     ap (λ (m : ℕ). s.args.x * m / 65536) c.inverse.ensures ∙ rest_is s.args.x s.args.r s.requires.0 s.requires.1
 
-pub tryte-rest-spec : {M : Type 1} → statement M
-tryte-rest-spec =
+pub tryte_rest_spec : {M : Type 1} → statement M
+tryte_rest_spec =
     tie.close (tie.spec (λ c κs. c.requires.1)
     (λ c. let s = c.before in omega (arith, mul-le-mul_left s.args.x (low c), s.requires.0))
     returns)

@@ -36,8 +36,8 @@ module _ (c : tie.Start) where
   tests : bit (before (bit (hit (x % 3)))) + bit (before two) + bit (before three) + bit (before (three + bit (hit (x / 27 % 3)))) ≤ 4
   tests = four (before (bit (hit (x % 3)))) (before two) (before three) (before (three + bit (hit (x / 27 % 3))))
 
-pub place-in-spec : {M : Type 1} → statement M
-place-in-spec =
+pub place_in_spec : {M : Type 1} → statement M
+place_in_spec =
     tie.close (tie.spec (λ c. search rules) (λ c. search rules) (λ c. omega (arith, hits c)) (λ c. search rules)
     (λ c. omega (arith, hits c)) (λ c. search rules) (λ c. omega (arith, hits c)) (λ c. search rules) (λ c. search rules)
     (λ c. omega (arith, tests c)) (λ c. search rules) (λ c. omega (arith, tests c)) (λ c. search rules) (λ c. omega (arith, tests c))

@@ -5,8 +5,8 @@ use borrow.Author.Rules.{rules}
 use Rattle.trits.proofs.search.total.Statement.{statement}
 use Rattle.trits.proofs.search.total.Tie as tie
 
-twos : tie.Need-returns-3
+twos : tie.Need-returns
 twos c = let e : c.before.before.args.t ≡ 2 = omega arith in rw e
 
-pub total-spec : {M : Type 1} → statement M
-total-spec = tie.close (tie.spec (λ c. search rules) (λ c. rw c.if1.true) (λ c. rw c.if2.true) twos)
+pub total_spec : {M : Type 1} → statement M
+total_spec = tie.close (tie.spec (λ c. search rules) (λ c. rw c.if-t-eq0.true) (λ c. rw c.if-t-eq1.true) twos)
