@@ -8,38 +8,31 @@ use Rattle.packing.proofs.ImageLaws.{sized, offsets, within, places_ready, put_s
 use Rattle.packing.proofs.image.put_places.Statement.{statement}
 use Rattle.packing.proofs.image.put_places.Tie as tie
 
--- the call
-abbrev start : tie.After-first-indices → tie.Start
-start c = c.before.before.before.before
-
-put-places-requires : tie.Need-put-places-requires
+put-places-requires : tie.Need-put_places-requires
 put-places-requires c κs =
-    let count = c.before.before.before.before in
-    let first = count.before.before.before.before.before in
-    let p = (start first).requires in
-    let f = first.first-indices.ensures in
-    let r = places_ready p.2 _ count.put4.auto.0 count.put4.ensures (f.0 ∙ sym p.3.nodes) (f.1 p.0 p.1 p.3) in
+    let p = c.requires in
+    let f = c.first_indices.ensures in
+    let r = places_ready p.2 _ c.put4.auto.s c.put4.ensures (f.0 ∙ sym p.3.nodes) (f.1 p.0 p.1 p.3) in
     (p.0, p.1, r.0, r.1, r.2)
 
 returns : tie.Need-returns
 unfolding section5
 returns c =
-    let put = c.before.before.before.before in
-    let count = put.before.before.before.before.before in
-    let first = count.before.before.before.before.before in
-    let f = first.first-indices.ensures in
-    let lay = (start first).args.lay in
+    let f = c.first_indices.ensures in
+    let lay = c.args.lay in
     λ trits H s u.
     let o = offsets s.laid in
-    let r = places_ready s _ count.put4.auto.0 count.put4.ensures (f.0 ∙ sym u.nodes) (f.1 trits H u) in
-    let e = put.put-places.ensures trits H r.0 r.1 r.2 in
-    ((put_section lay.at5 lay.shadows _ (section5 trits H) (omega arith) (omega arith) (sized s.laid).shadows_are count.put4.ensures e.0).is, e.1)
+    let r = places_ready s _ c.put4.auto.s c.put4.ensures (f.0 ∙ sym u.nodes) (f.1 trits H u) in
+    let e = c.put_places.ensures trits H r.0 r.1 r.2 in
+    ((put_section lay.at5 lay.shadows _ (section5 trits H) (omega arith) (omega arith) (sized s.laid).shadows_are c.put4.ensures e.0).is, e.1)
 
-pub put-places-spec : {M : Type 1} → statement M
-put-places-spec =
-    tie.close (tie.spec
-    (λ c κs. let p = c.before.before.before.requires in (p.0, p.1, p.3, omega (arith, shadows_few p.2.laid.proper)))
-    (λ c. omega (arith, within (start c.before.before.before).requires.2.laid))
-    (λ c. omega (arith, within (start c.before.before.before.before).requires.2.laid))
-    (λ c κs. omega (arith, within (start c.before.before.before.before).requires.2.laid))
-    put-places-requires (λ c. search rules) (λ c. search rules) returns)
+pub put_places_spec : {M : Type 1} → statement M
+put_places_spec =
+    tie.close (tie.spec (λ c κs. let p = c.requires in (p.0, p.1, p.3, omega (arith, shadows_few p.2.laid.proper)))
+    (λ c. omega (arith, within c.requires.2.laid))
+    (λ c. omega (arith, within c.requires.2.laid))
+    (λ c κs. omega (arith, within c.requires.2.laid))
+    put-places-requires
+    (λ c. search rules)
+    (λ c. search rules)
+    returns)

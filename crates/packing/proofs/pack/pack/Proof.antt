@@ -11,34 +11,39 @@ use Rattle.packing.proofs.PackLaws.{refused, scanned, outcome_7}
 use Rattle.packing.proofs.pack.pack.Statement.{statement}
 use Rattle.packing.proofs.pack.pack.Tie as tie
 
--- the call
-abbrev start : tie.After-scan → tie.Start
-start c = c.before.before.before.before.before
+measured : (c : tie.In-Sound) → Measured c.args.table.now c.in-Sound.s
+measured c = scanned (sym (ap sizes c.in-Sound.is) ∙ c.scan.ensures)
 
-measured : (c : tie.After-s) → Measured (start c.before.before).args.table.now c.s.given.0.0
-measured c = scanned (sym (ap sizes c.s.given.1) ∙ c.before.before.scan.ensures)
+mul-if1 : tie.Need-overflow_mul-n
+mul-if1 c = let s = measured c in omega (arith, (limits s.sized).nodes_fit, s.sized.many)
 
-mul-if1 : tie.Need-overflow-mul-if1
-mul-if1 c = let s = measured c.before in omega (arith, (limits s.sized).nodes_fit, s.sized.many)
+returns : tie.Need-returns-then-work-n
+returns c = outcome_7 (measured c.before) _ _ _ (inl c.if-work-n.true)
 
-returns : tie.Need-returns
-returns c = outcome_7 (measured c.before.before) _ _ _ (inl c.if1.true)
+returns-2 : tie.Need-returns-then-order-n
+returns-2 c = outcome_7 (measured c.before.before) _ _ _ (inr c.if-order-n.true)
 
-returns-2 : tie.Need-returns-2
-returns-2 c = outcome_7 (measured c.before.before.before) _ _ _ (inr c.if2.true)
-
-pack-nodes-requires : tie.Need-pack-nodes-requires
+pack-nodes-requires : tie.Need-pack_nodes-requires
 pack-nodes-requires c κs =
-    let i = c.before.before.before in
-    record { measured = measured i.before.before.before; order_room = i.if2.false; work_room = i.before.if1.false }
+    record { measured = measured c.before.before.before.before.before; order_room = c.if-order-n.false; work_room = c.if-work-n.false }
 
-returns-3 : tie.Need-returns-3
-returns-3 c = pack_faulty _ _ _ _ _ (refused _ _ (sym (ap sizes c.before.f.given.1) ∙ c.before.before.before.scan.ensures))
+returns-3 : tie.Need-returns-in-Fault
+returns-3 c = pack_faulty _ _ _ _ _ (refused _ _ (sym (ap sizes c.in-Fault.is) ∙ c.scan.ensures))
 
-returns-4 : tie.Need-returns-4
-returns-4 c = c.before.before.before.before.before.before.pack-nodes.ensures
+returns-4 : tie.Need-returns-else-order-n
+returns-4 c = c.pack_nodes.ensures
 
-pub pack-spec : {M : Type 1} → statement M
-pack-spec =
-    tie.close (tie.spec (λ c κs. search rules) (λ c. search rules) (λ c. search rules) mul-if1 returns returns-2 pack-nodes-requires
-    returns-3 (λ c. search rules) (λ c. search rules) (λ c. search rules) returns-4)
+pub pack_spec : {M : Type 1} → statement M
+pack_spec =
+    tie.close (tie.spec (λ c κs. search rules)
+    (λ c. search rules)
+    (λ c. search rules)
+    mul-if1
+    returns
+    returns-2
+    pack-nodes-requires
+    returns-3
+    (λ c. search rules)
+    (λ c. search rules)
+    (λ c. search rules)
+    returns-4)

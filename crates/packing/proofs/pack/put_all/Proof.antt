@@ -8,52 +8,58 @@ use Rattle.packing.proofs.PackLaws.{totals, laid_out, size_small, uncleared_9, p
 use Rattle.packing.proofs.pack.put_all.Statement.{statement}
 use Rattle.packing.proofs.pack.put_all.Tie as tie
 
--- the call
-abbrev start : tie.After-count-marked → tie.Start
-start c = c.before.before.before.before.before.before.before
+laid : (c : tie.After-lay_out-lay) → c.lay_out-lay.result ≡ graph_layout (graph_of c.args.table.now)
+laid c = let o = c.requires in laid_out o c.lay_out-lay.ensures (c.count_marked-marked.ensures _ o.walked.held)
 
-laid : (c : tie.After-lay-out) → c.lay-out.result ≡ graph_layout (graph_of (start c.before).args.table.now)
-laid c = let o = (start c.before).requires in laid_out o c.lay-out.ensures (c.before.count-marked.ensures _ o.walked.held)
+add-uses : tie.Need-overflow_add-uses
+add-uses c = let t = totals c.requires in omega arith
 
-add-uses : tie.Need-overflow-add-uses
-add-uses c = let t = totals c.before.before.before.before.before.requires in omega arith
+add_total : tie.Need-overflow_add-total
+add_total c = let t = totals c.requires in omega arith
 
-add_total : tie.Need-overflow-add-total
-add_total c = let t = totals (start c).requires in omega arith
+add-total-2 : tie.Need-overflow_add-total-2
+add-total-2 c = let t = totals c.requires in omega arith
 
-add-total-2 : tie.Need-overflow-add-total-2
-add-total-2 c = let t = totals (start c).requires in omega arith
+sub-shadows : tie.Need-overflow_sub-shadows
+sub-shadows c = let t = totals c.requires in omega arith
 
-sub-shadows : tie.Need-overflow-sub-shadows
-sub-shadows c = let t = totals (start c).requires in omega arith
-
-lay-out-requires : tie.Need-lay-out-requires
+lay-out-requires : tie.Need-lay_out-lay-requires
 lay-out-requires c κs =
-    let o = (start c).requires in
+    let o = c.requires in
     let t = totals o in
-    (omega arith, omega arith, omega arith, omega (arith, c.count-marked.ensures _ o.walked.held))
+    (omega arith, omega arith, omega arith, omega (arith, c.count_marked-marked.ensures _ o.walked.held))
 
-add-size-2 : tie.Need-overflow-add-size-2
-add-size-2 c = omega (arith, size_small (start c.before).requires (laid c))
+add-size-2 : tie.Need-overflow_add-size-2
+add-size-2 c = omega (arith, size_small c.requires (laid c))
 
-returns : tie.Need-returns
-returns c = uncleared_9 (start c.before.before).requires (laid c.before) (omega (arith, c.if1.true))
+returns : tie.Need-returns-then-image-size
+returns c = uncleared_9 c.requires (laid c.before) (omega (arith, c.if-image-size.true))
 
-put-image-requires : tie.Need-put-image-requires
+put-image-requires : tie.Need-put_image-requires
 put-image-requires c κs =
-    let i = c.before.before.before.before.before.before.before in
-    planned (start i.before.before).requires (laid i.before) (omega (arith, i.if1.false))
+    planned c.requires (laid c.before.before.before.before.before.before.before) (omega (arith, c.if-image-size.false))
 
-returns-2 : tie.Need-returns-2
+returns-2 : tie.Need-returns
 returns-2 c =
-    let p = c.before.before.before.before in
-    let q = p.before.before.before.before.before in
-    let i = q.before.before.before in
-    let o = (start i.before.before).requires in
-    uncleared_done o (laid i.before) i.if1.false (q.put_order.ensures _ o.walked.held) p.put-image.auto.1.0 p.put-image.ensures.1 p.put-image.ensures.0
+    let o = c.requires in
+    uncleared_done o (laid c.before.before.before.before.before.before.before.before.before.before.before.before) c.if-image-size.false (c.put_order.ensures _ o.walked.held) c.put_image.auto.work c.put_image.ensures.1 c.put_image.ensures.0
 
-pub put-all-spec : {M : Type 1} → statement M
-put-all-spec =
-    tie.close (tie.spec add-uses (λ c κs. search rules) add_total add-total-2 sub-shadows lay-out-requires (λ c. search rules)
-    (λ c. search rules) add-size-2 (λ c. search rules) returns (λ c κs. search rules) put-image-requires (λ c. search rules)
-    (λ c. search rules) (λ c. search rules) returns-2)
+pub put_all_spec : {M : Type 1} → statement M
+put_all_spec =
+    tie.close (tie.spec add-uses
+    (λ c κs. search rules)
+    add_total
+    add-total-2
+    sub-shadows
+    lay-out-requires
+    (λ c. search rules)
+    (λ c. search rules)
+    add-size-2
+    (λ c. search rules)
+    returns
+    (λ c κs. search rules)
+    put-image-requires
+    (λ c. search rules)
+    (λ c. search rules)
+    (λ c. search rules)
+    returns-2)

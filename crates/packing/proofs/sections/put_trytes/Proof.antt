@@ -11,42 +11,49 @@ use Rattle.packing.proofs.SectionLaws.{Putting, put_tryte}
 use Rattle.packing.proofs.sections.put_trytes.Statement.{statement}
 use Rattle.packing.proofs.sections.put_trytes.Tie as tie
 
-abbrev invariant-loop : tie.invariant-loop
+abbrev invariant-loop : tie.invariant-loop-i
 invariant-loop table work n at out₀ c₀ i₀ out c i = Putting table n out₀ out c i
 
-abbrev decreases-loop : tie.decreases-loop
+abbrev decreases-loop : tie.decreases-loop-i
 decreases-loop table work n at out₀ c₀ i₀ out c i = length out₀ - i
 
-loop-holds : tie.Need-loop-init invariant-loop decreases-loop
+loop-holds : tie.Need-loop-i-init invariant-loop decreases-loop
 loop-holds c =
-    let p = c.before.before.before.before.requires in
-    record { written = over_none _ _ _ (length_trytes _ ∙ sym p.2) (le_refl _); next = _; trits = refl; rest = c.first.ensures }
+    let p = c.requires in
+    record { written = over_none _ _ _ (length_trytes _ ∙ sym p.2) (le_refl _); next = _; trits = refl; rest = c.first-c.ensures }
 
-next-tryte-requires : tie.Need-next-tryte-requires invariant-loop decreases-loop
+next-tryte-requires : tie.Need-next_tryte-x-requires invariant-loop decreases-loop
 next-tryte-requires c κs =
-    let l = c.before in
-    record { walked = l.before.before.before.before.before.requires.0; left = l.loop.invariant.next; rest = l.loop.invariant.rest }
+    record { walked = c.requires.0; left = c.loop-i.invariant.next; rest = c.loop-i.invariant.rest }
 
 -- the part that is left to write
-inside : (c : tie.In-loop invariant-loop decreases-loop) → c.before.loop.i < length c.before.before.before.before.before.before.args.out.now
-inside c = omega (arith, over_length c.before.loop.invariant.written)
+inside : (c : tie.In-loop-i invariant-loop decreases-loop) → c.loop-i.i < length c.args.out.now
+inside c = omega (arith, over_length c.loop-i.invariant.written)
 
-loop-less : tie.Need-loop-smaller invariant-loop decreases-loop
+loop-less : tie.Need-loop-i-smaller invariant-loop decreases-loop
 loop-less c = omega (arith, inside c.before.before.before)
 
-loop-again : tie.Need-loop-preserved invariant-loop decreases-loop
+loop-again : tie.Need-loop-i-preserved invariant-loop decreases-loop
 loop-again c =
-    let x = c.before.before in
-    let l = x.before.before in
-    put_tryte l.loop.invariant (inside x.before) l.before.before.before.before.before.requires.2 x.next-tryte.result x.next-tryte.ensures.1
+    put_tryte c.loop-i.invariant (inside c.before.before.before) c.requires.2 c.next_tryte-x.result c.next_tryte-x.ensures.1
 
-same_length : tie.Need-same-length invariant-loop decreases-loop
-same_length c = over_length c.before.loop.invariant.written
+same_length : tie.Need-shape_of-out invariant-loop decreases-loop
+same_length c = over_length c.loop-i.invariant.written
 
 returns : tie.Need-returns invariant-loop decreases-loop
-returns c = let w = c.before.loop.invariant.written in over_whole w (omega (arith, over_length w)) refl
+returns c = let w = c.loop-i.invariant.written in over_whole w (omega (arith, over_length w)) refl
 
-pub put-trytes-spec : {M : Type 1} → statement M
-put-trytes-spec =
-    tie.close (tie.spec invariant-loop decreases-loop (λ c κs. search rules) loop-holds next-tryte-requires (λ c. search rules) (λ c. search rules)
-    (λ c. search rules) loop-less loop-again same_length returns)
+pub put_trytes_spec : {M : Type 1} → statement M
+put_trytes_spec =
+    tie.close (tie.spec invariant-loop
+    decreases-loop
+    (λ c κs. search rules)
+    loop-holds
+    next-tryte-requires
+    (λ c. search rules)
+    (λ c. search rules)
+    (λ c. search rules)
+    loop-less
+    loop-again
+    same_length
+    returns)

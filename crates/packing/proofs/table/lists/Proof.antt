@@ -10,48 +10,57 @@ use Rattle.packing.proofs.ScanLaws.{lists_none, lists_short, count_above, list_b
 use Rattle.packing.proofs.table.lists.Statement.{statement}
 use Rattle.packing.proofs.table.lists.Tie as tie
 
-abbrev invariant-loop : tie.invariant-loop
+abbrev invariant-loop : tie.invariant-loop-left
 invariant-loop table n at₀ m₀ left₀ at m left =
     (at ≤ length table) × (m ≤ 65535)
     × (step_of table (read_nodes n left m (drop at table)) ≡ step_of table (read_nodes n n 0 (drop 1 table)))
 
-abbrev decreases-loop : tie.decreases-loop
+abbrev decreases-loop : tie.decreases-loop-left
 decreases-loop table n at₀ m₀ left₀ at m left = left
 
-returns : tie.Need-returns invariant-loop decreases-loop
+returns : tie.Need-returns-then-table-at invariant-loop decreases-loop
 returns c =
-    let l = c.before.before.loop in
-    lists_short _ _ l.at l.m l.left (l.left - 1) (omega arith) c.if1.true ∙ l.invariant.2
+    let l = c.loop-left in
+    lists_short _ _ l.at l.m l.left (l.left - 1) (omega arith) c.if-table-at.true ∙ l.invariant.2
 
-returns-2 : tie.Need-returns-2 invariant-loop decreases-loop
+returns-2 : tie.Need-returns-then-m-gt-MAX_EDGES invariant-loop decreases-loop
 returns-2 c =
-    let w = c.before in
-    let l = w.before.before.before.loop in
-    count_above _ _ l.at l.m l.left (l.left - 1) (omega arith) (omega arith) _ w.word.ensures.0 c.if2.true ∙ l.invariant.2
+    let l = c.loop-left in
+    count_above _ _ l.at l.m l.left (l.left - 1) (omega arith) (omega arith) _ c.word-k.ensures.0 c.if-m-gt-MAX_EDGES.true ∙ l.invariant.2
 
-returns-3 : tie.Need-returns-3 invariant-loop decreases-loop
+returns-3 : tie.Need-returns-in-Bad invariant-loop decreases-loop
 returns-3 c =
-    let o = c.before.before.before in
-    let w = o.before.before in
-    let l = w.before.before.before.loop in
-    list_bad _ _ l.at l.m l.left (l.left - 1) (omega arith) (omega arith) _ w.word.ensures.0 (omega arith) _
-    (sym (ap place_of c.before.f.given.1) ∙ o.operands.ensures) ∙ l.invariant.2
+    let l = c.loop-left in
+    list_bad _ _ l.at l.m l.left (l.left - 1) (omega arith) (omega arith) _ c.word-k.ensures.0 (omega arith) _
+    (sym (ap place_of c.in-Bad.is) ∙ c.operands.ensures) ∙ l.invariant.2
 
-loop-again : tie.Need-loop-preserved invariant-loop decreases-loop
+loop-again : tie.Need-loop-left-preserved invariant-loop decreases-loop
 loop-again c =
-    let o = c.before.before.before in
-    let w = o.before.before in
-    let l = w.before.before.before.loop in
-    let next = list_next _ _ l.at l.m l.left (l.left - 1) (omega arith) (omega arith) _ w.word.ensures.0 (omega arith) _
-    (sym (ap place_of c.before.p.given.1) ∙ o.operands.ensures) in
+    let l = c.loop-left in
+    let next = list_next _ _ l.at l.m l.left (l.left - 1) (omega arith) (omega arith) _ c.word-k.ensures.0 (omega arith) _
+    (sym (ap place_of c.in-At.is) ∙ c.operands.ensures) in
     (next.0, omega arith, next.1 ∙ l.invariant.2)
 
-returns-4 : tie.Need-returns-4 invariant-loop decreases-loop
+returns-4 : tie.Need-returns invariant-loop decreases-loop
 returns-4 c =
-    let l = c.before.loop in
+    let l = c.loop-left in
     lists_none _ _ l.at l.m l.left (omega arith) l.invariant.0 ∙ l.invariant.2
 
-pub lists-spec : {M : Type 1} → statement M
-lists-spec =
-    tie.close (tie.spec invariant-loop decreases-loop (λ c. search rules) returns (λ c κs. search rules) (λ c. search rules) returns-2 (λ c. search rules)
-    (λ c κs. search rules) (λ c. search rules) returns-3 (λ c. search rules) (λ c. search rules) (λ c. search rules) loop-again returns-4)
+pub lists_spec : {M : Type 1} → statement M
+lists_spec =
+    tie.close (tie.spec invariant-loop
+    decreases-loop
+    (λ c. search rules)
+    returns
+    (λ c κs. search rules)
+    (λ c. search rules)
+    returns-2
+    (λ c. search rules)
+    (λ c κs. search rules)
+    (λ c. search rules)
+    returns-3
+    (λ c. search rules)
+    (λ c. search rules)
+    (λ c. search rules)
+    loop-again
+    returns-4)

@@ -11,36 +11,44 @@ use Rattle.packing.proofs.ScanLaws.{operands_none, operands_short, operand_outsi
 use Rattle.packing.proofs.table.operands.Statement.{statement}
 use Rattle.packing.proofs.table.operands.Tie as tie
 
-abbrev invariant-loop : tie.invariant-loop
+abbrev invariant-loop : tie.invariant-loop-left
 invariant-loop table n at k p₀ left₀ p left =
     (p ≤ length table) × (step_of table (read_operands n left (drop p table)) ≡ step_of table (read_operands n k (drop at table)))
 
-abbrev decreases-loop : tie.decreases-loop
+abbrev decreases-loop : tie.decreases-loop-left
 decreases-loop table n at k p₀ left₀ p left = left
 
-returns : tie.Need-returns invariant-loop decreases-loop
+returns : tie.Need-returns-then-table-p invariant-loop decreases-loop
 returns c =
-    let l = c.before.before.loop in
-    operands_short _ _ l.p l.left (l.left - 1) (omega arith) c.if1.true ∙ l.invariant.1
+    let l = c.loop-left in
+    operands_short _ _ l.p l.left (l.left - 1) (omega arith) c.if-table-p.true ∙ l.invariant.1
 
-returns-2 : tie.Need-returns-2 invariant-loop decreases-loop
+returns-2 : tie.Need-returns-then-outside invariant-loop decreases-loop
 returns-2 c =
-    let w = c.before.before in
-    let l = w.before.before.before.loop in
-    operand_outside _ _ l.p l.left (l.left - 1) (omega arith) (omega arith) _ w.word.ensures.0 (c.before.outside.ensures ∙ ap not c.if2.true) ∙ l.invariant.1
+    let l = c.loop-left in
+    operand_outside _ _ l.p l.left (l.left - 1) (omega arith) (omega arith) _ c.word-v.ensures.0 (c.outside.ensures ∙ ap not c.if-outside.true) ∙ l.invariant.1
 
-loop-again : tie.Need-loop-preserved invariant-loop decreases-loop
+loop-again : tie.Need-loop-left-preserved invariant-loop decreases-loop
 loop-again c =
-    let w = c.before.before in
-    let l = w.before.before.before.loop in
-    (omega arith, operand_next _ _ l.p l.left _ (omega arith) (omega arith) _ w.word.ensures.0 (c.before.outside.ensures ∙ ap not c.if2.false) ∙ l.invariant.1)
+    let l = c.loop-left in
+    (omega arith, operand_next _ _ l.p l.left _ (omega arith) (omega arith) _ c.word-v.ensures.0 (c.outside.ensures ∙ ap not c.if-outside.false) ∙ l.invariant.1)
 
-returns-3 : tie.Need-returns-3 invariant-loop decreases-loop
+returns-3 : tie.Need-returns invariant-loop decreases-loop
 returns-3 c =
-    let l = c.before.loop in
+    let l = c.loop-left in
     operands_none _ _ l.p l.left (omega arith) l.invariant.0 ∙ l.invariant.1
 
-pub operands-spec : {M : Type 1} → statement M
-operands-spec =
-    tie.close (tie.spec invariant-loop decreases-loop (λ c. search rules) returns (λ c κs. search rules) (λ c κs. search rules) returns-2
-    (λ c. search rules) (λ c. search rules) (λ c. search rules) loop-again returns-3)
+pub operands_spec : {M : Type 1} → statement M
+operands_spec =
+    tie.close (tie.spec invariant-loop
+    decreases-loop
+    (λ c. search rules)
+    returns
+    (λ c κs. search rules)
+    (λ c κs. search rules)
+    returns-2
+    (λ c. search rules)
+    (λ c. search rules)
+    (λ c. search rules)
+    loop-again
+    returns-3)

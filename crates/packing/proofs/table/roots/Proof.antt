@@ -1,6 +1,6 @@
 -- `table::roots` meets its contract: at each turn the roots left give the whole answer, and the map marks the roots read. Assumes nothing.
 use mathlib.Core.Path.{◌≡◌, refl, sym, ap, ◌∙◌}
-use mathlib.Core.Bool.{not}
+use mathlib.Core.Bool.{not, false}
 use mathlib.Core.List.{List, [], ◌∷◌, ◌++◌}
 use Prim.Native.Nat.{ℕ, ◌-◌, ◌≤◌, ◌<◌}
 use native.Mathlib.Omega.{arith}
@@ -22,67 +22,75 @@ record Rooted (table : List ℕ) (n at c : ℕ) (seen : List ℕ) (p left : ℕ)
   marks : Marks seen before
   rest : step_of table (read_roots n left before (drop p table)) ≡ step_of table (read_roots n c [] (drop at table))
 
-abbrev invariant-loop : tie.invariant-loop
+abbrev invariant-loop : tie.invariant-loop-left
 invariant-loop table n at c seen₀ p₀ left₀ seen p left = Rooted table n at c seen p left
 
-abbrev decreases-loop : tie.decreases-loop
+abbrev decreases-loop : tie.decreases-loop-left
 decreases-loop table n at c seen₀ p₀ left₀ seen p left = left
 
-loop-holds : tie.Need-loop-init invariant-loop decreases-loop
-loop-holds c = record { inside = c.before.requires.0; words = length-replicate {A = ℕ} 469 0; before = []; marks = marks_none; rest = refl }
+loop-holds : tie.Need-loop-left-init invariant-loop decreases-loop
+loop-holds c = record { inside = c.requires.0; words = length-replicate {A = ℕ} 469 0; before = []; marks = marks_none; rest = refl }
 
-returns : tie.Need-returns invariant-loop decreases-loop
+returns : tie.Need-returns-then-table-p invariant-loop decreases-loop
 returns c =
-    let l = c.before.before.loop in
-    roots_short _ _ l.p l.invariant.before l.left (l.left - 1) (omega arith) c.if1.true ∙ l.invariant.rest
+    let l = c.loop-left in
+    roots_short _ _ l.p l.invariant.before l.left (l.left - 1) (omega arith) c.if-table-p.true ∙ l.invariant.rest
 
-returns-2 : tie.Need-returns-2 invariant-loop decreases-loop
+returns-2 : tie.Need-returns-then-outside invariant-loop decreases-loop
 returns-2 c =
-    let w = c.before.before in
-    let l = w.before.before.before.loop in
-    root_outside _ _ l.p l.invariant.before l.left (l.left - 1) (omega arith) (omega arith) _ w.word.ensures.0
-    (c.before.outside.ensures ∙ ap not c.if2.true) ∙ l.invariant.rest
+    let l = c.loop-left in
+    root_outside _ _ l.p l.invariant.before l.left (l.left - 1) (omega arith) (omega arith) _ c.word-v.ensures.0
+    (c.outside.ensures ∙ ap not c.if-outside.true) ∙ l.invariant.rest
 
 -- a root that is a node has its mark in the map
-small : (c : tie.Else2 invariant-loop decreases-loop) → c.before.before.word.result < 30016
-small c =
-    let w = c.before.before in
-    let x = w.before.before.before.before.before in
-    let v : Node x.args.n w.word.result = is_node_node x.args.n w.word.result (c.before.outside.ensures ∙ ap not c.if2.false) in
-    omega (arith, x.requires.1)
+small : (c : tie.After-outside invariant-loop decreases-loop) → c.outside.result ≡ false → c.word-v.result < 30016
+small c node =
+    let v : Node c.args.n c.word-v.result = is_node_node c.args.n c.word-v.result (c.outside.ensures ∙ ap not node) in
+    omega (arith, c.requires.1)
 
-returns-3 : tie.Need-returns-3 invariant-loop decreases-loop
+returns-3 : tie.Need-returns-then-tested-ne0 invariant-loop decreases-loop
 returns-3 c =
-    let o = c.before.before in
-    let w = o.before.before in
-    let l = w.before.before.before.loop in
-    root_twice _ _ l.p l.invariant.before l.left (l.left - 1) (omega arith) (omega arith) _ w.word.ensures.0 (o.before.outside.ensures ∙ ap not o.if2.false)
-    (marks_old l.seen l.invariant.before w.word.result (small o) l.invariant.marks (λ z. c.if3.true (c.before.tested.ensures ∙ z))) ∙ l.invariant.rest
+    let l = c.loop-left in
+    root_twice _ _ l.p l.invariant.before l.left (l.left - 1) (omega arith) (omega arith) _ c.word-v.ensures.0 (c.outside.ensures ∙ ap not c.if-outside.false)
+    (marks_old l.seen l.invariant.before c.word-v.result (small c.before.before.before c.if-outside.false) l.invariant.marks (λ z. c.if-tested-ne0.true (c.tested.ensures ∙ z))) ∙ l.invariant.rest
 
-loop-again : tie.Need-loop-preserved invariant-loop decreases-loop
+loop-again : tie.Need-loop-left-preserved invariant-loop decreases-loop
 loop-again c =
-    let o = c.before.before.before in
-    let w = o.before.before in
-    let l = w.before.before.before.loop in
-    let v = w.word.result in
-    let new : number_in v l.invariant.before ≡ 0 = marks_new l.seen l.invariant.before v (small o) l.invariant.marks (sym c.before.before.tested.ensures ∙ c.before.if3.false) in
+    let l = c.loop-left in
+    let v = c.word-v.result in
+    let new : number_in v l.invariant.before ≡ 0 = marks_new l.seen l.invariant.before v (small c.before.before.before.before c.if-outside.false) l.invariant.marks (sym c.tested.ensures ∙ c.if-tested-ne0.false) in
     record {
       inside = omega arith;
       words = simp length-set l.invariant.words;
       before = l.invariant.before ++ v ∷ [];
-      marks = marks_more l.seen l.invariant.before v (small o) l.invariant.marks c.with-mark.result (omega (arith, small o, l.invariant.words)) c.with-mark.ensures new;
-      rest = root_next _ _ l.p l.invariant.before l.left (l.left - 1) (omega arith) (omega arith) v w.word.ensures.0
-          (o.before.outside.ensures ∙ ap not o.if2.false) new ∙ l.invariant.rest;
+      marks = marks_more l.seen l.invariant.before v (small c.before.before.before.before c.if-outside.false) l.invariant.marks c.with_mark.result (omega (arith, small c.before.before.before.before c.if-outside.false, l.invariant.words)) c.with_mark.ensures new;
+      rest = root_next _ _ l.p l.invariant.before l.left (l.left - 1) (omega arith) (omega arith) v c.word-v.ensures.0
+          (c.outside.ensures ∙ ap not c.if-outside.false) new ∙ l.invariant.rest;
     }
 
-returns-4 : tie.Need-returns-4 invariant-loop decreases-loop
+returns-4 : tie.Need-returns invariant-loop decreases-loop
 returns-4 c =
-    let l = c.before.loop in
+    let l = c.loop-left in
     roots_none _ _ l.p l.invariant.before l.left (omega arith) l.invariant.inside ∙ l.invariant.rest
 
-pub roots-spec : {M : Type 1} → statement M
-roots-spec =
-    tie.close (tie.spec invariant-loop decreases-loop loop-holds returns (λ c κs. search rules) (λ c κs. search rules) returns-2 (λ c. search rules)
-    (λ c. omega (arith, small c)) (λ c κs. search rules) returns-3 (λ c κs. search rules) (λ c. search rules)
-    (λ c. omega (arith, small c.before.before.before))
-    (λ c. search rules) (λ c. search rules) (λ c. search rules) loop-again returns-4)
+pub roots_spec : {M : Type 1} → statement M
+roots_spec =
+    tie.close (tie.spec invariant-loop
+    decreases-loop
+    loop-holds
+    returns
+    (λ c κs. search rules)
+    (λ c κs. search rules)
+    returns-2
+    (λ c. search rules)
+    (λ c. omega (arith, small c.before c.if-outside.false))
+    (λ c κs. search rules)
+    returns-3
+    (λ c κs. search rules)
+    (λ c. search rules)
+    (λ c. omega (arith, small c.before.before.before.before c.if-outside.false))
+    (λ c. search rules)
+    (λ c. search rules)
+    (λ c. search rules)
+    loop-again
+    returns-4)

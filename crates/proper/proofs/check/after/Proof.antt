@@ -10,9 +10,13 @@ use Rattle.proper.proofs.check.after.Tie as tie
 
 returns : tie.Need-returns
 returns c =
-    let b = c.before.args.rest.now in
-    let end = 4 + c.before.args.size in
-    take_all (length b - end) (drop end b) (omega (arith, length-drop end b)) ∙ sym (drop-drop c.before.args.size 4 b)
+    let b = c.args.rest.now in
+    let end = 4 + c.args.size in
+    take_all (length b - end) (drop end b) (omega (arith, length-drop end b)) ∙ sym (drop-drop c.args.size 4 b)
 
-pub after-spec : {M : Type 1} → statement M
-after-spec = tie.close (tie.spec (λ c. search rules) (λ c. search rules) (λ c. search rules) (λ c. search rules) returns)
+pub after_spec : {M : Type 1} → statement M
+after_spec = tie.close (tie.spec (λ c. search rules)
+    (λ c. search rules)
+    (λ c. search rules)
+    (λ c. search rules)
+    returns)

@@ -5,8 +5,10 @@ use Rattle.proper.specs.Examined.{Examines}
 use Rattle.proper.proofs.check.check.Statement.{statement}
 use Rattle.proper.proofs.check.check.Tie as tie
 
-pub check-spec : {M : Type 1} → statement M
-check-spec =
-    tie.close (tie.spec (λ c κs. search rules) (λ c. search rules) (λ c. search rules)
-    (λ c. sym (subst (Examines _ _) c.before.f.given.1 c.before.before.before.examine.ensures))
-    (λ c. sym (subst (Examines _ _) c.before.lay.given.1 c.before.before.before.examine.ensures).0))
+pub check_spec : {M : Type 1} → statement M
+check_spec =
+    tie.close (tie.spec (λ c κs. search rules)
+    (λ c. search rules)
+    (λ c. search rules)
+    (λ c. sym (subst (Examines _ _) c.in-Refused.is c.examine.ensures))
+    (λ c. sym (subst (Examines _ _) c.in-Proper.is c.examine.ensures).0))

@@ -10,10 +10,14 @@ use Rattle.proper.proofs.check.contents.Tie as tie
 
 returns : tie.Need-returns
 returns c =
-    let b = c.before.args.rest.now in
-    let e : 4 + c.before.args.size - 4 ≡ c.before.args.size = omega arith in
+    let b = c.args.rest.now in
+    let e : 4 + c.args.size - 4 ≡ c.args.size = omega arith in
     let r = ap (λ (k : ℕ). take k (drop 4 b)) e in
-    (r, ap length r ∙ length-take-le c.before.args.size (drop 4 b) (omega (arith, length-drop 4 b)))
+    (r, ap length r ∙ length-take-le c.args.size (drop 4 b) (omega (arith, length-drop 4 b)))
 
-pub contents-spec : {M : Type 1} → statement M
-contents-spec = tie.close (tie.spec (λ c. search rules) (λ c. search rules) (λ c. search rules) (λ c. search rules) returns)
+pub contents_spec : {M : Type 1} → statement M
+contents_spec = tie.close (tie.spec (λ c. search rules)
+    (λ c. search rules)
+    (λ c. search rules)
+    (λ c. search rules)
+    returns)

@@ -8,13 +8,14 @@ use Rattle.format.proofs.FaultLaws.{fault_yes, fault_no}
 use Rattle.proper.proofs.check.ended.Statement.{statement}
 use Rattle.proper.proofs.check.ended.Tie as tie
 
-returns : tie.Need-returns
+returns : tie.Need-returns-then-rest-eq0
 unfolding check_given
-returns c = sym (fault_yes 26 _ (eq-eqb (length c.before.args.rest.now) 0 (omega (arith, c.if1.true))))
+returns c = sym (fault_yes 26 _ (eq-eqb (length c.args.rest.now) 0 (omega (arith, c.if-rest-eq0.true))))
 
-returns-2 : tie.Need-returns-2
+returns-2 : tie.Need-returns
 unfolding check_given
-returns-2 c = sym (fault_no 26 _ (λ e. c.if1.false (eqb-true (length c.before.args.rest.now) 0 e)))
+returns-2 c = sym (fault_no 26 _ (λ e. c.if-rest-eq0.false (eqb-true (length c.args.rest.now) 0 e)))
 
-pub ended-spec : {M : Type 1} → statement M
-ended-spec = tie.close (tie.spec returns returns-2)
+pub ended_spec : {M : Type 1} → statement M
+ended_spec = tie.close (tie.spec returns
+    returns-2)

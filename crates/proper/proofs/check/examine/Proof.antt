@@ -18,86 +18,87 @@ use Rattle.proper.proofs.check.examine.Statement.{statement}
 use Rattle.proper.proofs.check.examine.Tie as tie
 
 -- the image
-abbrev image : tie.After-get4 → List ℕ
+abbrev image : tie.After-get4-l → List ℕ
 image g = g.before.before.before.args.image.now
 
 -- the count of section 1
-count : (c : tie.After-get4) → c.get4.result ≡ count_of (image c)
-count c = c.get4.ensures.0
+count : (c : tie.After-get4-l) → c.get4-l.result ≡ count_of (image c)
+count c = c.get4-l.ensures.0
 
 -- section 1, where its count is within the limit
-first : (c : tie.After-get4) → c.get4.result ≤ 125536 → let b = image c in
+first : (c : tie.After-get4-l) → c.get4-l.result ≤ 125536 → let b = image c in
     SectionGives (fault1 b) b (1 ≤ count_of b) 23 (size1 b) (contents_fault1 (count_of b) (contents_of (size1 b) b))
 first c h = (checker_gives (image c)).section_1 (omega (arith, count c))
 
-returns : tie.Need-returns
-returns c = refused_1 c.before.before.args.image.now ImageEnds (missing_1 c.before.before.args.image.now c.if1.true)
+returns : tie.Need-returns-then-image-lt4
+returns c = refused_1 c.args.image.now ImageEnds (missing_1 c.args.image.now c.if-image-lt4.true)
 
-returns-2 : tie.Need-returns-2
+returns-2 : tie.Need-returns-then-l-gt-MAX_TRITS
 returns-2 c =
-    let g = c.before in
-    let b = image g in
-    refused_1 b ImageTooLarge ((checker_gives b).too_large (omega (arith, g.before.if1.false)) (omega (arith, count g, c.if2.true)))
+    let b = image c in
+    refused_1 b ImageTooLarge ((checker_gives b).too_large (omega (arith, c.if-image-lt4.false)) (omega (arith, count c.before, c.if-l-gt-MAX_TRITS.true)))
 
-returns-3 : tie.Need-returns-3
+returns-3 : tie.Need-returns-then-l-eq0
 returns-3 c =
-    let g = c.before.before in
-    refused_1 _ TritsWrong ((first g (omega (arith, c.before.if2.false))).count_wrong (omega (arith, g.before.if1.false)) (λ h. omega (arith, count g, c.if3.true)))
+    refused_1 _ TritsWrong ((first c.before.before (omega (arith, c.if-l-gt-MAX_TRITS.false))).count_wrong (omega (arith, c.if-image-lt4.false)) (λ h. omega (arith, count c.before.before, c.if-l-eq0.true)))
 
 -- the count of section 1 is right, and its contents are there
-right : (c : tie.After-get4) → (c.get4.result ≡ 0 → ⊥) → 1 ≤ count_of (image c)
+right : (c : tie.After-get4-l) → (c.get4-l.result ≡ 0 → ⊥) → 1 ≤ count_of (image c)
 right c h = omega (arith, count c, h)
 
-returns-4 : tie.Need-returns-4
+returns-4 : tie.Need-returns-then-image-size
 returns-4 c =
-    let g = c.before.before.before in
-    let b = image g in
-    refused_1 b ImageEnds ((first g (omega (arith, c.before.before.if2.false))).contents_missing (omega (arith, g.before.if1.false)) (right g c.before.if3.false) (omega (arith, length-drop 4 b, count g, c.if4.true)))
+    let b = image c in
+    refused_1 b ImageEnds ((first c.before.before.before (omega (arith, c.if-l-gt-MAX_TRITS.false))).contents_missing (omega (arith, c.if-image-lt4.false)) (right c.before.before.before c.if-l-eq0.false) (omega (arith, length-drop 4 b, count c.before.before.before, c.if-image-size.true)))
 
 -- the bytes of section 1, as the definition cuts them
-bytes_are : (c : tie.After-contents) → let b = image c.before.before.before.before in c.contents.result.now ≡ contents_of (size1 b) b
-bytes_are c = let g = c.before.before.before.before in c.contents.ensures.0 ∙ ap (λ (x : ℕ). contents_of (up x 5) (image g)) (count g)
+bytes_are : (c : tie.After-contents-bs) → let b = image c.before.before.before.before in c.contents-bs.result.now ≡ contents_of (size1 b) b
+bytes_are c = c.contents-bs.ensures.0 ∙ ap (λ (x : ℕ). contents_of (up x 5) (image c)) (count c.before.before.before.before)
 
-there : (c : tie.After-contents) → let g = c.before.before.before.before in
-    fault1 (image g) ≡ contents_fault1 g.get4.result c.contents.result.now
+there : (c : tie.After-contents-bs) → fault1 (image c) ≡ contents_fault1 c.get4-l.result c.contents-bs.result.now
 there c =
-    let g = c.before.before.before.before in
-    let b = image g in
-    (first g (omega (arith, c.before.before.before.if2.false))).contents_there (omega (arith, g.before.if1.false)) (right g c.before.before.if3.false)
-    (omega (arith, length-drop 4 b, count g, c.before.if4.false))
-    ∙ (λ i. contents_fault1 (sym (count g) i) (sym (bytes_are c) i))
+    let b = image c in
+    (first c.before.before.before.before (omega (arith, c.if-l-gt-MAX_TRITS.false))).contents_there (omega (arith, c.if-image-lt4.false)) (right c.before.before.before.before c.if-l-eq0.false)
+    (omega (arith, length-drop 4 b, count c.before.before.before.before, c.if-image-size.false))
+    ∙ (λ i. contents_fault1 (sym (count c.before.before.before.before) i) (sym (bytes_are c) i))
 
 section1-requires : tie.Need-section1-requires
-section1-requires c κs = (c.contents.ensures.1, omega (arith, c.before.before.if3.false), omega (arith, c.before.before.before.if2.false))
+section1-requires c κs = (c.contents-bs.ensures.1, omega (arith, c.if-l-eq0.false), omega (arith, c.if-l-gt-MAX_TRITS.false))
 
 -- section 1 has passed
-passed : (c : tie.After-nodes) → let k = c.nodes.given.0 in let s = c.before.before in
-    FirstPassed s.before.contents.result.now s.before.before.before.before.before.get4.result k.0 k.1.0 k.1.1.0
+passed : (c : tie.In-Sizes) → let k = c.nodes-1.given.0 in FirstPassed c.contents-bs.result.now c.get4-l.result k.0 k.1.0 k.1.1.0
 passed c =
-    let s = c.before.before in
-    let z = subst (FirstSays _ _) c.nodes.given.1 s.section1.ensures in
-    first_passed_is (omega (arith, s.before.before.before.if3.false)) (omega (arith, s.before.before.before.before.if2.false)) s.before.contents.ensures.1 z
+    let z = subst (FirstSays _ _) c.in-Sizes.is c.section1.ensures in
+    first_passed_is (omega (arith, c.if-l-eq0.false)) (omega (arith, c.if-l-gt-MAX_TRITS.false)) c.contents-bs.ensures.1 z
 
-returns-5 : tie.Need-returns-5
+returns-5 : tie.Need-returns-in-Wrong
 returns-5 c =
-    let s = c.before.before.before in
-    refused_1 _ c.before.f.given.0.0 (there s.before ∙ subst (FirstSays _ _) c.before.f.given.1 s.section1.ensures)
+    refused_1 _ c.in-Wrong.f (there c.before.before ∙ subst (FirstSays _ _) c.in-Wrong.is c.section1.ensures)
 
-returns-6 : tie.Need-returns-6
+returns-6 : tie.Need-returns-in-Sizes
 unfolding trits_of
 returns-6 c =
-    let told = c.before.before.before in
-    let cut = told.before.before.before in
-    let g = cut.before.before.before.before in
-    let b = image g in
-    let rest = c.before.after.ensures ∙ ap (λ (x : ℕ). rest_of (up x 5) b) (count g) in
+    let b = image c in
+    let rest = c.after.ensures ∙ ap (λ (x : ℕ). rest_of (up x 5) b) (count c.before.before.before.before.before.before.before.before) in
     examines_as c.from2.result
-    ((λ i. check2 (untrytes (count g i) (bytes_are cut i)) (rest i)) ∙ sym (passed_1 b (there cut ∙ (passed told).passed)))
-    ((λ i. laying (untrytes (count g i) (bytes_are cut i)) (shadows2 (untrytes (count g i) (bytes_are cut i)) (rest i))) ∙ sym (laid_out b))
+    ((λ i. check2 (untrytes (count c.before.before.before.before.before.before.before.before i) (bytes_are c.before.before.before.before i)) (rest i)) ∙ sym (passed_1 b (there c.before.before.before.before ∙ (passed c.before.before).passed)))
+    ((λ i. laying (untrytes (count c.before.before.before.before.before.before.before.before i) (bytes_are c.before.before.before.before i)) (shadows2 (untrytes (count c.before.before.before.before.before.before.before.before i) (bytes_are c.before.before.before.before i)) (rest i))) ∙ sym (laid_out b))
     c.from2.ensures
 
-pub examine-spec : {M : Type 1} → statement M
-examine-spec =
-    tie.close (tie.spec returns (λ c κs. search rules) returns-2 returns-3 (λ c. search rules) (λ c. search rules) returns-4
-    (λ c κs. search rules) section1-requires (λ c. search rules) (λ c. search rules) (λ c κs. search rules)
-    (λ c κs. passed c.before.before) returns-5 returns-6)
+pub examine_spec : {M : Type 1} → statement M
+examine_spec =
+    tie.close (tie.spec returns
+    (λ c κs. search rules)
+    returns-2
+    returns-3
+    (λ c. search rules)
+    (λ c. search rules)
+    returns-4
+    (λ c κs. search rules)
+    section1-requires
+    (λ c. search rules)
+    (λ c. search rules)
+    (λ c κs. search rules)
+    (λ c κs. passed c.before)
+    returns-5
+    returns-6)

@@ -25,73 +25,71 @@ use Rattle.proper.proofs.check.from2.Tie as tie
 few : (c : tie.Start) → c.args.k ≤ 125536
 few c = let F = c.requires in omega (arith, F.sized.twos_are, F.sized.trits_are, F.few, count_le 2 (untrytes c.args.l c.args.bs.now))
 
-returns : tie.Need-returns
+returns : tie.Need-returns-in-Refused
 returns c =
-    let opened = c.before.before.before in
-    let s = opened.before.before.before in
-    second_refused _ s.args.rest.now s.requires.sized.twos_are c.before.f.given.0.0 (sym (ap checked_number c.before.f.given.1) ∙ opened.opened.ensures)
+    second_refused _ c.args.rest.now c.requires.sized.twos_are c.in-Refused.f (sym (ap checked_number c.in-Refused.is) ∙ c.opened.ensures)
 
 -- the front is open
-front : (c : tie.After-enum-told) → let x = c.before.before.before.before.before.args in 0 ≡ opens 24 x.k (2 * x.k) x.rest.now
-front c = sym (ap checked_number c.enum_told.given.1) ∙ c.before.before.opened.ensures
+front : (c : tie.In_default) → let x = c.args in 0 ≡ opens 24 x.k (2 * x.k) x.rest.now
+front c = sym (ap checked_number c.in_default.is) ∙ c.opened.ensures
 
-room : (c : tie.After-enum-told) → let x = c.before.before.before.before.before.args in 4 + 2 * x.k ≤ length x.rest.now
-room c = let x = c.before.before.before.before.before.args in opens_room 24 x.k (2 * x.k) x.rest.now (sym (front c))
+room : (c : tie.In_default) → let x = c.args in 4 + 2 * x.k ≤ length x.rest.now
+room c = let x = c.args in opens_room 24 x.k (2 * x.k) x.rest.now (sym (front c))
 
-shadows-right-requires : tie.Need-shadows-right-requires
+shadows-right-requires : tie.Need-shadows_right-right-requires
 shadows-right-requires c κs =
-    let F = c.before.before.before.before.before.before.requires in
-    (_, first_trits F, F.sized.trits_are, c.contents.ensures.1 ∙ ap (λ (k : ℕ). 2 * k) (sym F.sized.twos_are))
+    let F = c.requires in
+    (_, first_trits F, F.sized.trits_are, c.contents-hs.ensures.1 ∙ ap (λ (k : ℕ). 2 * k) (sym F.sized.twos_are))
 
 -- the test of section 2's contents
-seen : (c : tie.After-shadows-right) → let x = c.before.before.before.before.before.before.before.args in
-    c.shadows-right.result ≡ shadows_seen (untrytes x.l x.bs.now) (from_bytes 2 c.before.contents.result.now)
-seen c = let F = c.before.before.before.before.before.before.before.requires in c.shadows-right.ensures _ (first_trits F) F.sized.trits_are
+seen : (c : tie.After-shadows_right-right) → let x = c.args in
+    c.shadows_right-right.result ≡ shadows_seen (untrytes x.l x.bs.now) (from_bytes 2 c.contents-hs.result.now)
+seen c = let F = c.requires in c.shadows_right-right.ensures _ (first_trits F) F.sized.trits_are
 
-known : (c : tie.After-shadows-right) → c.shadows-right.result ≡ true → let x = c.before.before.before.before.before.before.before.args in
-    let hs = c.before.contents.result.now in Known (untrytes x.l x.bs.now) (from_bytes 2 hs) x.bs.now hs
+known : (c : tie.After-shadows_right-right) → c.shadows_right-right.result ≡ true → let x = c.args in
+    let hs = c.contents-hs.result.now in Known (untrytes x.l x.bs.now) (from_bytes 2 hs) x.bs.now hs
 known c t =
-    let read = c.before.before.before.before.before in
-    let x = read.before.before.args in
-    let e = c.before.contents.ensures in
-    first_known read.before.before.requires _ (subst (Below 256) (sym e.0) (below_contents (2 * x.k) x.rest.now (λ i l. omega (arith, read.shared-slice-known2.given i)))) e.1 (sym (seen c) ∙ t)
+    let x = c.args in
+    let e = c.contents-hs.ensures in
+    first_known c.requires _ (subst (Below 256) (sym e.0) (below_contents (2 * x.k) x.rest.now (λ i l. omega (arith, c.shared_slice_known-2-1.given i)))) e.1 (sym (seen c) ∙ t)
 
 -- the test by the contents' place
-tested : (c : tie.After-shadows-right) → let x = c.before.before.before.before.before.before.before.args in
-    c.shadows-right.result ≡ shadows_seen (untrytes x.l x.bs.now) (from_bytes 2 (contents_of (2 * x.k) x.rest.now))
+tested : (c : tie.After-shadows_right-right) → let x = c.args in
+    c.shadows_right-right.result ≡ shadows_seen (untrytes x.l x.bs.now) (from_bytes 2 (contents_of (2 * x.k) x.rest.now))
 tested c =
-    let x = c.before.before.before.before.before.before.before.args in
-    seen c ∙ ap (λ (l : List ℕ). shadows_seen (untrytes x.l x.bs.now) (from_bytes 2 l)) c.before.contents.ensures.0
+    let x = c.args in
+    seen c ∙ ap (λ (l : List ℕ). shadows_seen (untrytes x.l x.bs.now) (from_bytes 2 l)) c.contents-hs.ensures.0
 
 from3-requires : tie.Need-from3-requires
 from3-requires c κs =
-    let test = c.before.before in
-    (_, _, known test c.before.if1.true, test.before.before.before.before.before.before.before.requires.sized)
+    (_, _, known c.before.before c.if-right.true, c.requires.sized)
 
-returns-2 : tie.Need-returns-2
+returns-2 : tie.Need-returns-then-right
 returns-2 c =
-    let test = c.before.before.before in
-    let taken = c.before.before.if1.true in
-    let s = test.before.before.before.before.before.before.before in
-    let twos = s.requires.sized.twos_are in
-    let trits = untrytes s.args.l s.args.bs.now in
-    let b = s.args.rest.now in
-    let hs = test.before.contents.ensures.0 in
+    let taken = c.if-right.true in
+    let twos = c.requires.sized.twos_are in
+    let trits = untrytes c.args.l c.args.bs.now in
+    let b = c.args.rest.now in
+    let hs = c.contents-hs.ensures.0 in
     examines_as c.from3.result
-    ((λ i. check_given (given trits (from_bytes 2 (hs i))) (c.before.after.ensures i)) ∙ sym (second_passed trits b twos (front test.before.before) (sym (tested test) ∙ taken)))
+    ((λ i. check_given (given trits (from_bytes 2 (hs i))) (c.after.ensures i)) ∙ sym (second_passed trits b twos (front c.before.before.before.before.before) (sym (tested c.before.before.before) ∙ taken)))
     (ap (λ (l : List ℕ). laying trits (from_bytes 2 l)) hs ∙ ap (laying trits) (sym (shadows_2 trits b twos)))
-    (c.from3.ensures trits _ (known test taken) s.requires.sized)
+    (c.from3.ensures trits _ (known c.before.before.before taken) c.requires.sized)
 
-returns-3 : tie.Need-returns-3
+returns-3 : tie.Need-returns
 returns-3 c =
-    let test = c.before in
-    let s = test.before.before.before.before.before.before.before in
-    second_wrong (untrytes s.args.l s.args.bs.now) s.args.rest.now s.requires.sized.twos_are (front test.before.before) (sym (tested test) ∙ c.if1.false)
+    second_wrong (untrytes c.args.l c.args.bs.now) c.args.rest.now c.requires.sized.twos_are (front c.before.before.before) (sym (tested c.before) ∙ c.if-right.false)
 
-pub from2-spec : {M : Type 1} → statement M
-from2-spec =
-    tie.close (tie.spec
-    (λ c. omega (arith, few c.before.before))
-    (λ c κs. search rules) (λ c. search rules) returns (λ c. search rules) (λ c κs. room c) shadows-right-requires
+pub from2_spec : {M : Type 1} → statement M
+from2_spec =
+    tie.close (tie.spec (λ c. omega (arith, few c.before.before))
+    (λ c κs. search rules)
+    (λ c. search rules)
+    returns
+    (λ c. search rules)
+    (λ c κs. room c)
+    shadows-right-requires
     (λ c κs. room c.before.before.before)
-    from3-requires returns-2 returns-3)
+    from3-requires
+    returns-2
+    returns-3)

@@ -17,34 +17,33 @@ use Rattle.proper.proofs.check.from4.Tie as tie
 few : (c : tie.Start) → c.args.lay.marked ≤ 30000
 few c = let p = c.requires in omega (arith, counted_marked (counted p.2), marked_few p.0 p.1, limits_nodes p.0 p.2.marked.proper.in_limits)
 
--- the call
-abbrev start : tie.After-opened → tie.Start
-start o = o.before.before.before.before.before.before
-
-returns : tie.Need-returns
+returns : tie.Need-returns-in-Refused
 unfolding given
-returns c = λ trits H T. open_refused (front4 trits H (counted_marked (counted T))) (given_from 2 trits H) _ c.before.f.given.1 c.before.before.before.opened.ensures
+returns c = λ trits H T. open_refused (front4 trits H (counted_marked (counted T))) (given_from 2 trits H) _ c.in-Refused.is c.opened.ensures
 
 -- the front is open
-front : (c : tie.After-enum-told) → let x = (start c.before.before).args in let n = x.lay.marked + 1 in 0 ≡ opens 25 n (4 * n) x.rest.now
-front c = sym (ap checked_number c.enum_told.given.1) ∙ c.before.before.opened.ensures
+front : (c : tie.In_default) → let x = c.args in let n = x.lay.marked + 1 in 0 ≡ opens 25 n (4 * n) x.rest.now
+front c = sym (ap checked_number c.in_default.is) ∙ c.opened.ensures
 
-room : (c : tie.After-enum-told) → let x = (start c.before.before).args in 4 + 4 * (x.lay.marked + 1) ≤ length x.rest.now
-room c = let x = (start c.before.before).args in let n = x.lay.marked + 1 in opens_room 25 n (4 * n) x.rest.now (sym (front c))
+room : (c : tie.In_default) → let x = c.args in 4 + 4 * (x.lay.marked + 1) ≤ length x.rest.now
+room c = let x = c.args in let n = x.lay.marked + 1 in opens_room 25 n (4 * n) x.rest.now (sym (front c))
 
-returns-2 : tie.Need-returns-2
+returns-2 : tie.Need-returns
 unfolding given section4
 returns-2 c =
-    let cut = c.before.before in
     λ trits H T.
     c.from5.ensures trits H T
-    ∙ first_open (section4 trits H) (given_from 2 trits H) _ (front4 trits H (counted_marked (counted T))) (front cut.before) cut.contents.ensures.0 c.before.after.ensures
+    ∙ first_open (section4 trits H) (given_from 2 trits H) _ (front4 trits H (counted_marked (counted T))) (front c.before.before.before) c.contents-firsts.ensures.0 c.after.ensures
 
-pub from4-spec : {M : Type 1} → statement M
-from4-spec =
-    tie.close (tie.spec
+pub from4_spec : {M : Type 1} → statement M
+from4_spec =
+    tie.close (tie.spec (λ c. omega (arith, few c.before.before.before.before.before))
     (λ c. omega (arith, few c.before.before.before.before.before))
-    (λ c. omega (arith, few c.before.before.before.before.before))
-    (λ c κs. search rules) (λ c. search rules) returns (λ c. search rules) (λ c κs. room c) (λ c κs. room c.before)
-    (λ c κs. let cut = c.before in (cut.contents.ensures.1, (start cut.before.before.before).requires))
+    (λ c κs. search rules)
+    (λ c. search rules)
+    returns
+    (λ c. search rules)
+    (λ c κs. room c)
+    (λ c κs. room c.before)
+    (λ c κs. (c.contents-firsts.ensures.1, c.requires))
     returns-2)

@@ -15,21 +15,24 @@ gives : (c : tie.Start) → let x = c.args in
     SectionGives (opens (refusal_number x.code) x.entries x.size x.rest.now) x.rest.now (count_of x.rest.now ≡ x.entries) (refusal_number x.code) x.size 0
 gives c = opens_gives (refusal_number c.args.code) c.args.entries c.args.size c.args.rest.now (refusal_some c.args.code)
 
-returns : tie.Need-returns
-returns c = sym ((gives c.before.before).count_missing c.if1.true)
+returns : tie.Need-returns-then-rest-lt4
+returns c = sym ((gives c.before.before).count_missing c.if-rest-lt4.true)
 
-returns-2 : tie.Need-returns-2
-returns-2 c = sym ((gives c.before.before.before.before).count_wrong (omega arith) (λ e. c.if2.true (c.before.get4.ensures.0 ∙ e)))
+returns-2 : tie.Need-returns-then-found-entries
+returns-2 c = sym ((gives c.before.before.before.before).count_wrong (omega arith) (λ e. c.if-found-entries.true (c.get4-found.ensures.0 ∙ e)))
 
-returns-3 : tie.Need-returns-3
+returns-3 : tie.Need-returns-then-rest-size
 returns-3 c =
-    let s = c.before.before.before.before.before in
-    sym ((gives s).contents_missing (omega arith) (sym c.before.before.get4.ensures.0 ∙ c.before.if2.false) (omega (arith, length-drop 4 s.args.rest.now)))
+    sym ((gives c.before.before.before.before.before).contents_missing (omega arith) (sym c.get4-found.ensures.0 ∙ c.if-found-entries.false) (omega (arith, length-drop 4 c.args.rest.now)))
 
-returns-4 : tie.Need-returns-4
+returns-4 : tie.Need-returns
 returns-4 c =
-    let s = c.before.before.before.before.before in
-    sym ((gives s).contents_there (omega arith) (sym c.before.before.get4.ensures.0 ∙ c.before.if2.false) (omega (arith, length-drop 4 s.args.rest.now)))
+    sym ((gives c.before.before.before.before.before).contents_there (omega arith) (sym c.get4-found.ensures.0 ∙ c.if-found-entries.false) (omega (arith, length-drop 4 c.args.rest.now)))
 
-pub opened-spec : {M : Type 1} → statement M
-opened-spec = tie.close (tie.spec returns (λ c κs. search rules) returns-2 (λ c. search rules) returns-3 returns-4)
+pub opened_spec : {M : Type 1} → statement M
+opened_spec = tie.close (tie.spec returns
+    (λ c κs. search rules)
+    returns-2
+    (λ c. search rules)
+    returns-3
+    returns-4)

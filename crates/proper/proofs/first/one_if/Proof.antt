@@ -6,8 +6,7 @@ use Rattle.format.specs.Lists.{bit}
 use Rattle.proper.proofs.first.one_if.Statement.{statement}
 use Rattle.proper.proofs.first.one_if.Tie as tie
 
-pub one-if-spec : {M : Type 1} → statement M
-one-if-spec =
-    tie.close (tie.spec
-    (λ c. (ap bit (sym (eq-eqb _ _ c.if1.true)), omega arith))
-    (λ c. (ap bit (sym (ne_eqb _ _ c.if1.false)), omega arith)))
+pub one_if_spec : {M : Type 1} → statement M
+one_if_spec =
+    tie.close (tie.spec (λ c. (ap bit (sym (eq-eqb _ _ c.if-a-b.true)), omega arith))
+    (λ c. (ap bit (sym (ne_eqb _ _ c.if-a-b.false)), omega arith)))

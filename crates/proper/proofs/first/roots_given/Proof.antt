@@ -11,37 +11,43 @@ use Rattle.proper.proofs.FirstLaws.{trit_of_lem, OnesOnly, roots_zero, roots_two
 use Rattle.proper.proofs.first.roots_given.Statement.{statement}
 use Rattle.proper.proofs.first.roots_given.Tie as tie
 
-abbrev invariant-loop : tie.invariant-loop
+abbrev invariant-loop : tie.invariant-loop-p
 invariant-loop bs l p₀ p = (length (untrytes l bs) ≡ l) × OnesOnly (untrytes l bs) p
 
-abbrev decreases-loop : tie.decreases-loop
+abbrev decreases-loop : tie.decreases-loop-p
 decreases-loop bs l p₀ p = l - p
 
-loop-holds : tie.Need-loop-init invariant-loop decreases-loop
+loop-holds : tie.Need-loop-p-init invariant-loop decreases-loop
 loop-holds c =
-    let x = c.before.args in
+    let x = c.args in
     let ts = untrytes x.l x.bs.now in
-    (length_untrytes _ _ c.before.requires.0, record { threes = trits_untrytes x.l x.bs.now; inside = omega arith; ones = rank_zero 1 ts })
+    (length_untrytes _ _ c.requires.0, record { threes = trits_untrytes x.l x.bs.now; inside = omega arith; ones = rank_zero 1 ts })
 
 -- the trit of this turn
-trit_is : (c : tie.After-trit invariant-loop decreases-loop) → let at = c.before.before in let x = at.before.before.args in
-    get_or (untrytes x.l x.bs.now) at.loop.p 0 ≡ c.trit.result
-trit_is c = trit_of_lem _ _ _ _ (search rules) c.trit.ensures.0
+trit_is : (c : tie.After-trit-t invariant-loop decreases-loop) → let x = c.args in
+    get_or (untrytes x.l x.bs.now) c.loop-p.p 0 ≡ c.trit-t.result
+trit_is c = trit_of_lem _ _ _ _ (search rules) c.trit-t.ensures.0
 
-returns : tie.Need-returns invariant-loop decreases-loop
-returns c = let on = c.before in roots_zero on.before.before.loop.invariant.1 (omega arith) (trit_is on ∙ c.if1.true)
+returns : tie.Need-returns-then-t-eq0 invariant-loop decreases-loop
+returns c = roots_zero c.loop-p.invariant.1 (omega arith) (trit_is c.before ∙ c.if-t-eq0.true)
 
-returns-2 : tie.Need-returns-2 invariant-loop decreases-loop
-returns-2 c = let on = c.before.before in λ r e. roots_two on.before.before.loop.invariant.1 (omega arith) (trit_is on ∙ c.if2.true) r
+returns-2 : tie.Need-returns-then-t-eq2 invariant-loop decreases-loop
+returns-2 c = λ r e. roots_two c.loop-p.invariant.1 (omega arith) (trit_is c.before.before ∙ c.if-t-eq2.true) r
 
-loop-again : tie.Need-loop-preserved invariant-loop decreases-loop
+loop-again : tie.Need-loop-p-preserved invariant-loop decreases-loop
 loop-again c =
-    let on = c.before.before in
-    let i = on.before.before.loop.invariant in
-    (i.0, roots_more i.1 (omega arith) (trit_is on ∙ omega arith))
+    let i = c.loop-p.invariant in
+    (i.0, roots_more i.1 (omega arith) (trit_is c.before.before ∙ omega arith))
 
-pub roots-given-spec : {M : Type 1} → statement M
-roots-given-spec =
-    tie.close (tie.spec invariant-loop decreases-loop loop-holds (λ c κs. search rules) returns returns-2 (λ c. search rules) (λ c. search rules)
+pub roots_given_spec : {M : Type 1} → statement M
+roots_given_spec =
+    tie.close (tie.spec invariant-loop
+    decreases-loop
+    loop-holds
+    (λ c κs. search rules)
+    returns
+    returns-2
+    (λ c. search rules)
+    (λ c. search rules)
     loop-again
-    (λ c r e. roots_end c.before.loop.invariant.1 (omega arith) e))
+    (λ c r e. roots_end c.loop-p.invariant.1 (omega arith) e))

@@ -7,31 +7,41 @@ use Rattle.proper.proofs.MapLaws.{Filled, filled_none, filled_more, filled_all}
 use Rattle.proper.proofs.marked.set_marks.Statement.{statement}
 use Rattle.proper.proofs.marked.set_marks.Tie as tie
 
-abbrev invariant-loop : tie.invariant-loop
+abbrev invariant-loop : tie.invariant-loop-i
 invariant-loop hs map₀ many i₀ map i = Filled hs i map
 
-abbrev decreases-loop : tie.decreases-loop
+abbrev decreases-loop : tie.decreases-loop-i
 decreases-loop hs map₀ many i₀ map i = many - i
 
-loop-holds : tie.Need-loop-init invariant-loop decreases-loop
-loop-holds c = filled_none c.before.before.requires.0
+loop-holds : tie.Need-loop-i-init invariant-loop decreases-loop
+loop-holds c = filled_none c.requires.0
 
-shadow-requires : tie.Need-shadow-requires invariant-loop decreases-loop
+shadow-requires : tie.Need-shadow-v-requires invariant-loop decreases-loop
 shadow-requires c κs =
-    let known = c.before.before.before.before.requires.1 in
+    let known = c.requires.1 in
     (known.0, known.1, known.2, omega (arith, length_shadows known.2))
 
-loop-again : tie.Need-loop-preserved invariant-loop decreases-loop
+loop-again : tie.Need-loop-i-preserved invariant-loop decreases-loop
 loop-again c =
-    let at = c.before.before in
-    let turn = at.before in
-    filled_more turn.before.loop.invariant turn.loop-test.true at.shadow.ensures.0 at.shadow.ensures.1 at.shadow.ensures.2 c.with-mark.ensures
+    filled_more c.loop-i.invariant c.loop-i-test.true c.shadow-v.ensures.0 c.shadow-v.ensures.1 c.shadow-v.ensures.2 c.with_mark.ensures
 
 returns : tie.Need-returns invariant-loop decreases-loop
-returns c = filled_all c.before.loop.invariant c.loop-test.false
+returns c = filled_all c.loop-i.invariant c.loop-i-test.false
 
-pub set-marks-spec : {M : Type 1} → statement M
-set-marks-spec =
-    tie.close (tie.spec invariant-loop decreases-loop loop-holds shadow-requires (λ c. search rules) (λ c. search rules) (λ c. search rules)
-    (λ c κs. search rules) (λ c. search rules) (λ c. search rules) (λ c. search rules) (λ c. search rules) loop-again (λ c. search rules)
+pub set_marks_spec : {M : Type 1} → statement M
+set_marks_spec =
+    tie.close (tie.spec invariant-loop
+    decreases-loop
+    loop-holds
+    shadow-requires
+    (λ c. search rules)
+    (λ c. search rules)
+    (λ c. search rules)
+    (λ c κs. search rules)
+    (λ c. search rules)
+    (λ c. search rules)
+    (λ c. search rules)
+    (λ c. search rules)
+    loop-again
+    (λ c. search rules)
     returns)

@@ -5,9 +5,10 @@ use borrow.Author.Tests.{le-leb, lt-leb}
 use Rattle.proper.proofs.placed.number_is.Statement.{statement}
 use Rattle.proper.proofs.placed.number_is.Tie as tie
 
-pub number-is-spec : {M : Type 1} → statement M
-number-is-spec =
-    tie.close (tie.spec (λ c. search rules) (λ c. search rules)
-    (λ c. rw (lt-leb _ _ c.if1.true))
+pub number_is_spec : {M : Type 1} → statement M
+number_is_spec =
+    tie.close (tie.spec (λ c. search rules)
+    (λ c. search rules)
+    (λ c. rw (lt-leb _ _ c.if-part-at.true))
     (λ c κs. omega arith)
-    (λ c. rw (le-leb _ _ c.before.if1.false, c.get4.ensures.0)))
+    (λ c. rw (le-leb _ _ c.if-part-at.false, c.get4.ensures.0)))

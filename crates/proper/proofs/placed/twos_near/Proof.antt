@@ -20,51 +20,46 @@ few : (c : tie.Start) → c.args.l ≤ 125536
 few c = let t = c.requires.4 in omega (arith, t.1.few, t.2)
 
 -- the sample's tryte is at most half a step away, and a whole one
-reach : (c : tie.After-smaller) → let s = c.before.before.before.before in let x = s.args in
-    (c.smaller.result ≤ x.q + x.half) × (x.q ≤ c.smaller.result + x.half) × (c.smaller.result ≤ x.l / 5)
+reach : (c : tie.After-smaller-at) → let x = c.args in
+    (c.smaller-at.result ≤ x.q + x.half) × (x.q ≤ c.smaller-at.result + x.half) × (c.smaller-at.result ≤ x.l / 5)
 reach c =
-    let s = c.before.before.before.before in
-    let N = nearest s in
-    (omega (arith, N.ahead, c.smaller.ensures), omega (arith, N.behind, c.smaller.ensures, s.requires.4.4), omega (arith, c.smaller.ensures))
+    let N = nearest c.before.before.before.before in
+    (omega (arith, N.ahead, c.smaller-at.ensures), omega (arith, N.behind, c.smaller-at.ensures, c.requires.4.4), omega (arith, c.smaller-at.ensures))
 
-sampled : (c : tie.After-smaller) → let s = c.before.before.before.before in let x = s.args in
-    (trits : List ℕ) → length trits ≡ x.l → TwosAt trits x.step x.twos.now → c.before.number_at.result ≡ rank 2 trits (5 * c.smaller.result)
+sampled : (c : tie.After-smaller-at) → let x = c.args in
+    (trits : List ℕ) → length trits ≡ x.l → TwosAt trits x.step x.twos.now → c.number_at-sample.result ≡ rank 2 trits (5 * c.smaller-at.result)
 sampled c trits n W =
-    let s = c.before.before.before.before in
-    let x = s.args in
-    let e : spot trits x.step ((x.q + x.half) / x.step) ≡ c.smaller.result = omega (arith, c.smaller.ensures) in
-    c.before.number_at.ensures.0 ∙ W ((x.q + x.half) / x.step) (omega (arith, (nearest s).early)) ∙ ap (λ (k : ℕ). rank 2 trits (5 * k)) e
+    let x = c.args in
+    let e : spot trits x.step ((x.q + x.half) / x.step) ≡ c.smaller-at.result = omega (arith, c.smaller-at.ensures) in
+    c.number_at-sample.ensures.0 ∙ W ((x.q + x.half) / x.step) (omega (arith, (nearest c.before.before.before.before).early)) ∙ ap (λ (k : ℕ). rank 2 trits (5 * k)) e
 
 -- the twos between
-between : (c : tie.After-twos-between) → let at = c.before.before in let x = at.before.before.before.before.args in
+between : (c : tie.After-twos_between-n) → let x = c.args in
     (trits : List ℕ) → TritsIn trits x.bs.now → length trits ≡ x.l
-    → (x.q < at.smaller.result → rank 2 trits (5 * x.q) + c.twos-between.result ≡ rank 2 trits (5 * at.smaller.result))
-    × (at.smaller.result ≤ x.q → rank 2 trits (5 * at.smaller.result) + c.twos-between.result ≡ rank 2 trits (5 * x.q))
+    → (x.q < c.smaller-at.result → rank 2 trits (5 * x.q) + c.twos_between-n.result ≡ rank 2 trits (5 * c.smaller-at.result))
+    × (c.smaller-at.result ≤ x.q → rank 2 trits (5 * c.smaller-at.result) + c.twos_between-n.result ≡ rank 2 trits (5 * x.q))
 between c trits T n =
-    let f = c.before in
-    let at = f.before in
-    let s = at.before.before.before.before in
-    let x = s.args in
-    let r = c.twos-between.ensures trits T (omega (arith, reach at, f.smaller2.ensures, s.requires.4.4)) in (
-      λ h. let a : f.smaller2.result ≡ x.q = omega (arith, f.smaller2.ensures) in let b : at.smaller.result + x.q - x.q ≡ at.smaller.result = omega arith in rw (a, b) at r,
-      λ h. let a : f.smaller2.result ≡ at.smaller.result = omega (arith, f.smaller2.ensures) in let b : at.smaller.result + x.q - at.smaller.result ≡ x.q = omega arith in rw (a, b) at r,
+    let x = c.args in
+    let r = c.twos_between-n.ensures trits T (omega (arith, reach c.before.before, c.smaller-from.ensures, c.requires.4.4)) in (
+      λ h. let a : c.smaller-from.result ≡ x.q = omega (arith, c.smaller-from.ensures) in let b : c.smaller-at.result + x.q - x.q ≡ c.smaller-at.result = omega arith in rw (a, b) c r,
+      λ h. let a : c.smaller-from.result ≡ c.smaller-at.result = omega (arith, c.smaller-from.ensures) in let b : c.smaller-at.result + x.q - c.smaller-at.result ≡ x.q = omega arith in rw (a, b) c r,
     )
 
-pub twos-near-spec : {M : Type 1} → statement M
-twos-near-spec =
-    tie.close (tie.spec
-    (λ c. let s = c.before in omega (arith, few s, s.requires.1, s.requires.4.4))
-    (λ c. search (rules, c.before.requires.3.some))
-    (λ c κs. let s = c.before.before in omega (arith, (nearest s).low))
-    (λ c. let s = c.before.before.before in omega (arith, few s, (nearest s).early))
-    (λ c κs. search rules) (λ c κs. search rules)
-    (λ c. let at = c.before in let s = at.before.before.before.before in omega (arith, few s, reach at, s.requires.4.4))
-    (λ c. omega (arith, c.smaller2.ensures))
-    (λ c κs. let at = c.before in let s = at.before.before.before.before in let p = s.requires in let t = p.4 in
-    (p.0, omega (arith, c.smaller2.ensures), omega (arith, reach at, c.smaller2.ensures), p.1, (t.0, t.1, omega (arith, reach at, c.smaller2.ensures, t.2, t.4), omega (arith, t.2, t.4))))
-    (λ c. let b = c.before in let at = b.before.before in let t = at.before.before.before.before.requires.4 in
-    omega (arith, sampled at t.0 t.2 t.3, (between b t.0 t.1 t.2).0 c.if1.true))
-    (λ c trits T n W. let b = c.before in let at = b.before.before in omega (arith, sampled at trits n W, (between b trits T n).0 c.if1.true))
-    (λ c. let b = c.before in let at = b.before.before in let s = at.before.before.before.before in let t = s.requires.4 in
-    omega (arith, sampled at t.0 t.2 t.3, (between b t.0 t.1 t.2).1 (omega arith), few_twos t.1 (5 * s.args.q)))
-    (λ c trits T n W. let b = c.before in let at = b.before.before in omega (arith, sampled at trits n W, (between b trits T n).1 (omega arith))))
+pub twos_near_spec : {M : Type 1} → statement M
+twos_near_spec =
+    tie.close (tie.spec (λ c. omega (arith, few c.before, c.requires.1, c.requires.4.4))
+    (λ c. search (rules, c.requires.3.some))
+    (λ c κs. omega (arith, (nearest c.before.before).low))
+    (λ c. omega (arith, few c.before.before.before, (nearest c.before.before.before).early))
+    (λ c κs. search rules)
+    (λ c κs. search rules)
+    (λ c. omega (arith, few c.before.before.before.before.before, reach c.before, c.requires.4.4))
+    (λ c. omega (arith, c.smaller-from.ensures))
+    (λ c κs. let p = c.requires in let t = p.4 in
+    (p.0, omega (arith, c.smaller-from.ensures), omega (arith, reach c.before, c.smaller-from.ensures), p.1, (t.0, t.1, omega (arith, reach c.before, c.smaller-from.ensures, t.2, t.4), omega (arith, t.2, t.4))))
+    (λ c. let t = c.requires.4 in
+    omega (arith, sampled c.before.before.before t.0 t.2 t.3, (between c.before t.0 t.1 t.2).0 c.if-q-at.true))
+    (λ c trits T n W. omega (arith, sampled c.before.before.before trits n W, (between c.before trits T n).0 c.if-q-at.true))
+    (λ c. let t = c.requires.4 in
+    omega (arith, sampled c.before.before.before t.0 t.2 t.3, (between c.before t.0 t.1 t.2).1 (omega arith), few_twos t.1 (5 * c.args.q)))
+    (λ c trits T n W. omega (arith, sampled c.before.before.before trits n W, (between c.before trits T n).1 (omega arith))))

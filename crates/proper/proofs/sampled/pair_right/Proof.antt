@@ -6,18 +6,17 @@ use Rattle.proper.proofs.PairLaws.{number_room, small_pair}
 use Rattle.proper.proofs.sampled.pair_right.Statement.{statement}
 use Rattle.proper.proofs.sampled.pair_right.Tie as tie
 
-returns : tie.Need-returns
-returns c = rw (← c.before.number.ensures, ne_eqb _ _ c.if1.true)
+returns : tie.Need-returns-then-number-zeros
+returns c = rw (← c.number.ensures, ne_eqb _ _ c.if-number-zeros.true)
 
-returns-2 : tie.Need-returns-2
-returns-2 c = rw (← c.before.before.number.ensures, eq-eqb _ _ c.before.if1.false, c.number2.ensures)
+returns-2 : tie.Need-returns
+returns-2 c = rw (← c.number.ensures, eq-eqb _ _ c.if-number-zeros.false, c.number-2.ensures)
 
-pub pair-right-spec : {M : Type 1} → statement M
-pair-right-spec =
-    tie.close (tie.spec
-    (λ c. let s = c.before in omega (arith, small_pair s.args.q s.requires.0 s.requires.1))
-    (λ c κs. let s = c.before in (s.requires.0, number_room s.args.width (2 * s.args.q) _ (omega arith) s.requires.1))
+pub pair_right_spec : {M : Type 1} → statement M
+pair_right_spec =
+    tie.close (tie.spec (λ c. omega (arith, small_pair c.args.q c.requires.0 c.requires.1))
+    (λ c κs. (c.requires.0, number_room c.args.width (2 * c.args.q) _ (omega arith) c.requires.1))
     returns
-    (λ c. let s = c.before.before.before in omega (arith, small_pair s.args.q s.requires.0 s.requires.1))
-    (λ c κs. let s = c.before.before.before in (s.requires.0, number_room s.args.width (2 * s.args.q + 1) _ (omega arith) s.requires.1))
+    (λ c. omega (arith, small_pair c.args.q c.requires.0 c.requires.1))
+    (λ c κs. (c.requires.0, number_room c.args.width (2 * c.args.q + 1) _ (omega arith) c.requires.1))
     returns-2)

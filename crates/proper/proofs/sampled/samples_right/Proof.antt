@@ -13,11 +13,11 @@ use Rattle.proper.proofs.PairLaws.{same_planned, Passed, pair_room, passed_none,
 use Rattle.proper.proofs.sampled.samples_right.Statement.{statement}
 use Rattle.proper.proofs.sampled.samples_right.Tie as tie
 
-abbrev invariant-loop : tie.invariant-loop
+abbrev invariant-loop : tie.invariant-loop-q
 invariant-loop bs table part l step fan width many last c₀ q₀ c q =
     (q ≤ last) × ((trits : List ℕ) → TritsIn trits bs → length trits ≡ l → Passed trits step fan width q c part)
 
-abbrev decreases-loop : tie.decreases-loop
+abbrev decreases-loop : tie.decreases-loop-q
 decreases-loop bs table part l step fan width many last c₀ q₀ c q = last - q
 
 -- the plan is that of all trits that the bytes hold
@@ -25,43 +25,44 @@ plan : (c : tie.Start invariant-loop decreases-loop) → let x = c.args in (trit
 plan c trits T n = let t = c.requires.1 in same_planned t.1 t.2 t.3 T n
 
 -- the pair of this turn lies in the section
-room : (c : tie.At-loop invariant-loop decreases-loop) → let x = c.before.before.before.args in
-    Width x.width × (x.width * (2 * (c.loop.q + 1)) ≤ length x.part.now)
-room c = let t = c.before.before.before.requires.1 in (t.3.paced.widths, pair_room t.3 t.2 c.loop.invariant.0)
+room : (c : tie.At-loop-q invariant-loop decreases-loop) → let x = c.args in
+    Width x.width × (x.width * (2 * (c.loop-q.q + 1)) ≤ length x.part.now)
+room c = let t = c.requires.1 in (t.3.paced.widths, pair_room t.3 t.2 c.loop-q.invariant.0)
 
-returns : tie.Need-returns invariant-loop decreases-loop
+returns : tie.Need-returns-then-not-pair_right invariant-loop decreases-loop
 returns c =
-    let at = c.before.before.before in
-    λ trits T n. passed_wrong (plan at.before.before.before trits T n) (at.loop.invariant.1 trits T n) n at.loop.invariant.0 c.before.pair-right.ensures c.if1.true
+    λ trits T n. passed_wrong (plan c.before.before.before.before.before.before trits T n) (c.loop-q.invariant.1 trits T n) n c.loop-q.invariant.0 c.pair_right.ensures c.if-not-pair_right.true
 
-next-counts-requires : tie.Need-next-counts-requires invariant-loop decreases-loop
+next-counts-requires : tie.Need-next_counts-c-requires invariant-loop decreases-loop
 next-counts-requires c κs =
-    let at = c.before.before.before in
-    let x = at.before.before.before.requires in
+    let x = c.requires in
     let t = x.1 in
-    (x.0, (t.0, passed_step t.3 (at.loop.invariant.1 t.0 t.1 t.2) t.1 t.2 c.before.before.loop-test.true))
+    (x.0, (t.0, passed_step t.3 (c.loop-q.invariant.1 t.0 t.1 t.2) t.1 t.2 c.loop-q-test.true))
 
-loop-again : tie.Need-loop-preserved invariant-loop decreases-loop
-loop-again c =
-    let on = c.before.before in
-    let at = on.before.before in (
-      omega arith,
-      λ trits T n.
-          let P = plan at.before.before.before trits T n in
-          let S = at.loop.invariant.1 trits T n in
-          passed_next P S n at.loop.invariant.0 on.pair-right.ensures c.before.if1.false (c.next-counts.ensures trits (passed_step P S T n on.before.loop-test.true)),
-    )
+loop-again : tie.Need-loop-q-preserved invariant-loop decreases-loop
+loop-again c = (
+  omega arith,
+  λ trits T n.
+      let P = plan c.before.before.before.before.before.before.before trits T n in
+      let S = c.loop-q.invariant.1 trits T n in
+      passed_next P S n c.loop-q.invariant.0 c.pair_right.ensures c.if-not-pair_right.false (c.next_counts-c.ensures trits (passed_step P S T n c.loop-q-test.true)),
+)
 
-returns-2 : tie.Need-returns-2 invariant-loop decreases-loop
+returns-2 : tie.Need-returns invariant-loop decreases-loop
 returns-2 c =
-    let at = c.before.before in
-    λ trits T n. passed_all (plan at.before.before.before trits T n) (at.loop.invariant.1 trits T n) n at.loop.invariant.0 c.pair-right2.ensures (omega arith) (λ i l. omega (arith, at.before.shared-slice-known2.given i))
+    λ trits T n. passed_all (plan c.before.before.before.before.before trits T n) (c.loop-q.invariant.1 trits T n) n c.loop-q.invariant.0 c.pair_right-2.ensures (omega arith) (λ i l. omega (arith, c.shared_slice_known-2-1.given i))
 
-pub samples-right-spec : {M : Type 1} → statement M
-samples-right-spec =
-    tie.close (tie.spec invariant-loop decreases-loop
-    (λ c. c.before.before.requires.1.3.paced.steps)
+pub samples_right_spec : {M : Type 1} → statement M
+samples_right_spec =
+    tie.close (tie.spec invariant-loop
+    decreases-loop
+    (λ c. c.requires.1.3.paced.steps)
     (λ c. (omega arith, λ trits T n. passed_none (plan c.before.before trits T n)))
-    (λ c κs. room c.before) returns next-counts-requires
-    (λ c. let x = c.before.before.before.before.before.before.before.args in omega (arith, div-le_self x.l x.step))
-    (λ c. search rules) loop-again (λ c κs. room c.before) returns-2)
+    (λ c κs. room c.before)
+    returns
+    next-counts-requires
+    (λ c. let x = c.args in omega (arith, div-le_self x.l x.step))
+    (λ c. search rules)
+    loop-again
+    (λ c κs. room c.before)
+    returns-2)
