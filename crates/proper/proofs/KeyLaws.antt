@@ -58,6 +58,7 @@ rising_run f (suc n) s a h k = (h (omega arith), rising_run f n (suc s) (suc (f 
 -- ---- members
 
 mem_keep : (t : ℕ → Bool) {x : ℕ} (xs : List ℕ) → t x ≡ true → Memᴰ x xs → Memᴰ x (keep t xs)
+mem_keep t {x} [] e m = elim m [ ]
 mem_keep t {x} (y ∷ xs) e (Memᴰ.head q) = subst (λ (b : Bool). Memᴰ x (consIf b y (keep t xs))) (sym e ∙ ap t q) (Memᴰ.head q)
 mem_keep t {x} (y ∷ xs) e (Memᴰ.tail m) = go (t y) (mem_keep t xs e m)
   where
@@ -66,6 +67,7 @@ mem_keep t {x} (y ∷ xs) e (Memᴰ.tail m) = go (t y) (mem_keep t xs e m)
     go false k = k
 
 mem_join : {x : ℕ} {xs : List ℕ} (xss : List (List ℕ)) → Memᴰ x xs → Memᴰ xs xss → Memᴰ x (join xss)
+mem_join {x} {xs} [] m k = elim k [ ]
 mem_join {x} (ys ∷ xss) m (Memᴰ.head e) = Memᴰ.append_left (join xss) (subst (λ (l : List ℕ). Memᴰ x l) e m)
 mem_join (ys ∷ xss) m (Memᴰ.tail k) = Memᴰ.append_right ys (mem_join xss m k)
 
@@ -94,7 +96,7 @@ module _ (trits H : List ℕ) where
     keys_group : (i : ℕ) → Between (131072 * i) (131072 * suc i) (map (key trits H) (group trits H i))
     unfolding group places
     keys_group i =
-        rw (keep_keep, ← add-zero (131072 * i))
+        rw (keep_keep (λ p. eqb (shadow_at trits H p) i) (λ p. eqb (get_or trits p 3) 2) (run 0 (length trits)), ← add-zero (131072 * i))
         (keys_run i (λ p. eqb (get_or trits p 3) 2 && eqb (shadow_at trits H p) i) (λ p e. eqb-true _ i (both_true (eqb (get_or trits p 3) 2) _ e).1) (length trits) 0 (omega arith))
 
     keys_grouped : (n : ℕ) → Between 131072 (131072 * suc n) (map (key trits H) (grouped trits H n))

@@ -19,7 +19,7 @@ use Rattle.proper.proofs.check.examine.Tie as tie
 
 -- the image
 abbrev image : tie.After-get4-l → List ℕ
-image g = g.before.before.before.args.image.now
+image g = g.args.image.now
 
 -- the count of section 1
 count : (c : tie.After-get4-l) → c.get4-l.result ≡ count_of (image c)
@@ -35,7 +35,7 @@ returns c = refused_1 c.args.image.now ImageEnds (missing_1 c.args.image.now c.i
 
 returns-2 : tie.Need-returns-then-l-gt-MAX_TRITS
 returns-2 c =
-    let b = image c in
+    let b = image c.before in
     refused_1 b ImageTooLarge ((checker_gives b).too_large (omega (arith, c.if-image-lt4.false)) (omega (arith, count c.before, c.if-l-gt-MAX_TRITS.true)))
 
 returns-3 : tie.Need-returns-then-l-eq0
@@ -48,16 +48,16 @@ right c h = omega (arith, count c, h)
 
 returns-4 : tie.Need-returns-then-image-size
 returns-4 c =
-    let b = image c in
+    let b = image c.before.before.before in
     refused_1 b ImageEnds ((first c.before.before.before (omega (arith, c.if-l-gt-MAX_TRITS.false))).contents_missing (omega (arith, c.if-image-lt4.false)) (right c.before.before.before c.if-l-eq0.false) (omega (arith, length-drop 4 b, count c.before.before.before, c.if-image-size.true)))
 
 -- the bytes of section 1, as the definition cuts them
 bytes_are : (c : tie.After-contents-bs) → let b = image c.before.before.before.before in c.contents-bs.result.now ≡ contents_of (size1 b) b
-bytes_are c = c.contents-bs.ensures.0 ∙ ap (λ (x : ℕ). contents_of (up x 5) (image c)) (count c.before.before.before.before)
+bytes_are c = c.contents-bs.ensures.0 ∙ ap (λ (x : ℕ). contents_of (up x 5) (image c.before.before.before.before)) (count c.before.before.before.before)
 
-there : (c : tie.After-contents-bs) → fault1 (image c) ≡ contents_fault1 c.get4-l.result c.contents-bs.result.now
+there : (c : tie.After-contents-bs) → fault1 (image c.before.before.before.before) ≡ contents_fault1 c.get4-l.result c.contents-bs.result.now
 there c =
-    let b = image c in
+    let b = image c.before.before.before.before in
     (first c.before.before.before.before (omega (arith, c.if-l-gt-MAX_TRITS.false))).contents_there (omega (arith, c.if-image-lt4.false)) (right c.before.before.before.before c.if-l-eq0.false)
     (omega (arith, length-drop 4 b, count c.before.before.before.before, c.if-image-size.false))
     ∙ (λ i. contents_fault1 (sym (count c.before.before.before.before) i) (sym (bytes_are c) i))
@@ -66,7 +66,7 @@ section1-requires : tie.Need-section1-requires
 section1-requires c κs = (c.contents-bs.ensures.1, omega (arith, c.if-l-eq0.false), omega (arith, c.if-l-gt-MAX_TRITS.false))
 
 -- section 1 has passed
-passed : (c : tie.In-Sizes) → let k = c.nodes-1.given.0 in FirstPassed c.contents-bs.result.now c.get4-l.result k.0 k.1.0 k.1.1.0
+passed : (c : tie.In-Sizes) → let k = c.in-Sizes in FirstPassed c.contents-bs.result.now c.get4-l.result k.nodes k.roots k.shadows
 passed c =
     let z = subst (FirstSays _ _) c.in-Sizes.is c.section1.ensures in
     first_passed_is (omega (arith, c.if-l-eq0.false)) (omega (arith, c.if-l-gt-MAX_TRITS.false)) c.contents-bs.ensures.1 z
@@ -78,7 +78,7 @@ returns-5 c =
 returns-6 : tie.Need-returns-in-Sizes
 unfolding trits_of
 returns-6 c =
-    let b = image c in
+    let b = image c.before.before.before.before.before.before.before.before in
     let rest = c.after.ensures ∙ ap (λ (x : ℕ). rest_of (up x 5) b) (count c.before.before.before.before.before.before.before.before) in
     examines_as c.from2.result
     ((λ i. check2 (untrytes (count c.before.before.before.before.before.before.before.before i) (bytes_are c.before.before.before.before i)) (rest i)) ∙ sym (passed_1 b (there c.before.before.before.before ∙ (passed c.before.before).passed)))

@@ -60,7 +60,7 @@ loop-again c = (
 returns-2 : tie.Need-returns invariant-loop decreases-loop
 returns-2 c =
     let e : c.loop-i.i ≡ 3 = omega arith in
-    λ trits H C. c.from9.ensures trits H C.marked (counted_nodes C) ∙ rw e c (c.loop-i.invariant.1 trits H C)
+    λ trits H C. c.from9.ensures trits H C.marked (counted_nodes C) ∙ rw e at (c.loop-i.invariant.1 trits H C)
 
 pub from6_spec : {M : Type 1} → statement M
 from6_spec =

@@ -3,7 +3,6 @@ use native.Mathlib.Omega.{arith}
 use mathlib.Core.Path.{◌≡◌, sym, ◌∙◌, subst}
 use mathlib.Core.Bool.{true}
 use borrow.Author.Rules.{rules}
-use borrow.Author.Tests.{not-true, not-false}
 use Rattle.format.specs.Proper.{bytes_low, padded}
 use Rattle.format.proofs.CheckLaws.{length_untrytes}
 use Rattle.proper.specs.FirstSays.{RootsSay, NodesSay}
@@ -12,10 +11,10 @@ use Rattle.proper.proofs.first.section1.Statement.{statement}
 use Rattle.proper.proofs.first.section1.Tie as tie
 
 returns : tie.Need-returns-then-not-bytes_low
-returns c = rule_broken (λ o. not_both (sym c.bytes_low.ensures ∙ not-true _ c.if-not-bytes_low.true) o.is_low)
+returns c = rule_broken (λ o. not_both (sym c.bytes_low.ensures ∙ c.if-not-bytes_low.true) o.is_low)
 
 returns-2 : tie.Need-returns-then-not-zero_padded
-returns-2 c = rule_broken (λ o. not_both (sym c.zero_padded.ensures ∙ not-true _ c.if-not-zero_padded.true) o.is_padded)
+returns-2 c = rule_broken (λ o. not_both (sym c.zero_padded.ensures ∙ c.if-not-zero_padded.true) o.is_padded)
 
 returns-3 : tie.Need-returns-in_default
 returns-3 c = rule_broken (λ o. subst (RootsSay _) c.in_default.is c.roots_given.ensures o.roots_first_lem o.is_balanced)
@@ -26,7 +25,7 @@ returns-4 c = rule_broken (λ o. subst (NodesSay _) c.in_default-nodes_given.is 
 -- past the two tests of the bytes
 passed : (c : tie.Else-not-zero_padded) → let x = c.args in (bytes_low x.bs.now ≡ true) × (padded x.l x.bs.now ≡ true)
 passed c =
-    (sym c.bytes_low.ensures ∙ not-false _ c.if-not-bytes_low.false, sym c.zero_padded.ensures ∙ not-false _ c.if-not-zero_padded.false)
+    (sym c.bytes_low.ensures ∙ c.if-not-bytes_low.false, sym c.zero_padded.ensures ∙ c.if-not-zero_padded.false)
 
 nodes-given-requires : tie.Need-nodes_given-requires
 nodes-given-requires c κs =

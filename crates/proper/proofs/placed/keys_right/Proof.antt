@@ -25,8 +25,8 @@ decreases-loop bs hs firsts part counts twos l step many low₀ j₀ e₀ low j 
 -- the entry of a turn is answered by r
 abbrev Told : tie.At-loop-e invariant-loop decreases-loop → Entry → Type 0
 Told c r =
-    let x = c.before.before.before.before.before.args in
-    (trits H : List ℕ) → Known trits H x.bs.now x.hs.now → length trits ≡ x.l → TwosAt trits x.step x.twos.now → Answered trits H c.loop.low (entries x.part.now c.loop.e) r
+    let x = c.args in
+    (trits H : List ℕ) → Known trits H x.bs.now x.hs.now → length trits ≡ x.l → TwosAt trits x.step x.twos.now → Answered trits H c.loop-e.low (entries x.part.now c.loop-e.e) r
 
 told : (c : tie.After-entry_key invariant-loop decreases-loop) → Told c.before.before c.entry_key.result
 told c = c.entry_key.ensures
@@ -48,11 +48,11 @@ few c =
 returns : tie.Need-returns-in_default invariant-loop decreases-loop
 returns c =
     λ trits H K n W.
-    indexed_wrong (c.loop-e.invariant.2 trits H K n W) K.shadowed.proper (inside c.before.before trits H K n) (subst (Told c) c.in_default.is (told c.before) trits H K n W)
+    indexed_wrong (c.loop-e.invariant.2 trits H K n W) K.shadowed.proper (inside c.before.before trits H K n) (subst (Told c.before.before.before) c.in_default.is (told c.before) trits H K n W)
 
 -- an entry that is right, with its key
-rises : (c : tie.In-Key invariant-loop decreases-loop) → Told c.before.before.before.before (Key c.in-Key.key)
-rises c = subst (Told c.before.before.before.before) c.in-Key.is (told c.before)
+rises : (c : tie.In-Key invariant-loop decreases-loop) → Told c.before.before.before (Key c.in-Key.key)
+rises c = subst (Told c.before.before.before) c.in-Key.is (told c.before)
 
 add_low : tie.Need-overflow_add-low invariant-loop decreases-loop
 add_low c =

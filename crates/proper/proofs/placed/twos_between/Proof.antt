@@ -40,7 +40,7 @@ loop-again c =
     let x = c.args in (
       omega arith,
       omega (arith, small c),
-      λ trits T l. between_next x.from x.end c.loop-d.d c.loop-d.n (ltb (x.from + c.loop-d.d) x.end) refl (λ b. let e : c.smaller-at.result ≡ x.from + c.loop-d.d = omega (arith, c.smaller-at.ensures, trytes_many T) in rw e c (read c.before trits T (omega arith))) l c.two_count.ensures.0 (c.loop-d.invariant.2 trits T l),
+      λ trits T l. between_next x.from x.end c.loop-d.d c.loop-d.n (ltb (x.from + c.loop-d.d) x.end) refl (λ b. let e : c.smaller-at.result ≡ x.from + c.loop-d.d = omega (arith, c.smaller-at.ensures, trytes_many T) in rw e at (read c.before trits T (omega arith))) l c.two_count.ensures.0 (c.loop-d.invariant.2 trits T l),
     )
 
 none : (c : tie.Start invariant-loop decreases-loop) → let x = c.args in (trits : List ℕ) → TritsIn trits x.bs.now → 5 * x.end ≤ length trits
@@ -53,7 +53,7 @@ none c trits T l =
 returns : tie.Need-returns invariant-loop decreases-loop
 returns c trits T l =
     let e : c.args.from + c.loop-d.d - (c.args.from + c.loop-d.d - c.args.end) ≡ c.args.end = omega (arith, c.requires.1, c.requires.2) in
-    rw e c (c.loop-d.invariant.2 trits T l)
+    rw e at (c.loop-d.invariant.2 trits T l)
 
 pub twos_between_spec : {M : Type 1} → statement M
 twos_between_spec =

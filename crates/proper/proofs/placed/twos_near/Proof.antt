@@ -41,8 +41,8 @@ between : (c : tie.After-twos_between-n) → let x = c.args in
 between c trits T n =
     let x = c.args in
     let r = c.twos_between-n.ensures trits T (omega (arith, reach c.before.before, c.smaller-from.ensures, c.requires.4.4)) in (
-      λ h. let a : c.smaller-from.result ≡ x.q = omega (arith, c.smaller-from.ensures) in let b : c.smaller-at.result + x.q - x.q ≡ c.smaller-at.result = omega arith in rw (a, b) c r,
-      λ h. let a : c.smaller-from.result ≡ c.smaller-at.result = omega (arith, c.smaller-from.ensures) in let b : c.smaller-at.result + x.q - c.smaller-at.result ≡ x.q = omega arith in rw (a, b) c r,
+      λ h. let a : c.smaller-from.result ≡ x.q = omega (arith, c.smaller-from.ensures) in let b : c.smaller-at.result + x.q - x.q ≡ c.smaller-at.result = omega arith in rw (a, b) at r,
+      λ h. let a : c.smaller-from.result ≡ c.smaller-at.result = omega (arith, c.smaller-from.ensures) in let b : c.smaller-at.result + x.q - c.smaller-at.result ≡ x.q = omega arith in rw (a, b) at r,
     )
 
 pub twos_near_spec : {M : Type 1} → statement M

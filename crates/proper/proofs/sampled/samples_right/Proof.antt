@@ -2,7 +2,8 @@
 use Prim.Native.Nat.{ℕ, ◌-◌, ◌*◌, ◌+◌, ◌≤◌}
 use native.Mathlib.Nat.{div-le_self}
 use native.Mathlib.Omega.{arith}
-use mathlib.Core.Path.{◌≡◌}
+use mathlib.Core.Path.{◌≡◌, ap}
+use mathlib.Core.Bool.{not}
 use mathlib.Core.List.{List}
 use borrow.Author.Rules.{rules}
 use lib.ListN.{length}
@@ -31,7 +32,7 @@ room c = let t = c.requires.1 in (t.3.paced.widths, pair_room t.3 t.2 c.loop-q.i
 
 returns : tie.Need-returns-then-not-pair_right invariant-loop decreases-loop
 returns c =
-    λ trits T n. passed_wrong (plan c.before.before.before.before.before.before trits T n) (c.loop-q.invariant.1 trits T n) n c.loop-q.invariant.0 c.pair_right.ensures c.if-not-pair_right.true
+    λ trits T n. passed_wrong (plan c.before.before.before.before.before.before trits T n) (c.loop-q.invariant.1 trits T n) n c.loop-q.invariant.0 c.pair_right.ensures (ap not c.if-not-pair_right.true)
 
 next-counts-requires : tie.Need-next_counts-c-requires invariant-loop decreases-loop
 next-counts-requires c κs =
@@ -45,7 +46,7 @@ loop-again c = (
   λ trits T n.
       let P = plan c.before.before.before.before.before.before.before trits T n in
       let S = c.loop-q.invariant.1 trits T n in
-      passed_next P S n c.loop-q.invariant.0 c.pair_right.ensures c.if-not-pair_right.false (c.next_counts-c.ensures trits (passed_step P S T n c.loop-q-test.true)),
+      passed_next P S n c.loop-q.invariant.0 c.pair_right.ensures (ap not c.if-not-pair_right.false) (c.next_counts-c.ensures trits (passed_step P S T n c.loop-q-test.true)),
 )
 
 returns-2 : tie.Need-returns invariant-loop decreases-loop

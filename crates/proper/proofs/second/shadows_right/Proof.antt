@@ -3,7 +3,6 @@ use Prim.Native.Nat.{◌-◌}
 use native.Mathlib.Omega.{arith}
 use mathlib.Core.Path.{◌≡◌, sym}
 use borrow.Author.Rules.{rules}
-use borrow.Author.Tests.{not-true, not-false}
 use lib.ListN.{get_or}
 use Rattle.format.specs.Trits.{untrytes}
 use Rattle.proper.proofs.FirstLaws.{trit_of_lem}
@@ -33,7 +32,7 @@ entry-right-requires c κs =
 returns : tie.Need-returns-then-not-entry_right invariant-loop decreases-loop
 returns c =
     let i = c.loop-p.invariant in
-    λ trits t e. rw (trits_are t e) at (sym (seeing_wrong i.1 (omega arith) i.0.paired (trit_is c.before.before) c.entry_right.ensures (not-true _ c.if-not-entry_right.true)))
+    λ trits t e. rw (trits_are t e) at (sym (seeing_wrong i.1 (omega arith) i.0.paired (trit_is c.before.before) c.entry_right.ensures c.if-not-entry_right.true))
 
 add-ones : tie.Need-overflow_add-ones invariant-loop decreases-loop
 add-ones c = let s = c.loop-p.invariant.1 in omega (arith, seeing_few s)
@@ -44,7 +43,7 @@ add-twos c = let s = c.loop-p.invariant.1 in omega (arith, seeing_few s)
 loop-again : tie.Need-loop-p-preserved invariant-loop decreases-loop
 loop-again c =
     let i = c.loop-p.invariant in
-    let right = not-false _ c.if-not-entry_right.false in
+    let right = c.if-not-entry_right.false in
     (i.0, seeing_more i.1 (omega arith) i.0.paired (trit_is c.before.before.before.before) c.entry_right.ensures right _ _ c.one_if-ones.ensures.0 c.one_if-twos.ensures.0)
 
 returns-2 : tie.Need-returns invariant-loop decreases-loop
