@@ -39,28 +39,28 @@ returns-2 c =
     refused_1 b ImageTooLarge ((checker_gives b).too_large (omega (arith, c.if-image-lt4.false)) (omega (arith, count c.before, c.if-l-gt-MAX_TRITS.true)))
 
 returns-3 : tie.Need-returns-then-l-eq0
-returns-3 c =
-    refused_1 _ TritsWrong ((first c.before.before (omega (arith, c.if-l-gt-MAX_TRITS.false))).count_wrong (omega (arith, c.if-image-lt4.false)) (λ h. omega (arith, count c.before.before, c.if-l-eq0.true)))
+returns-3 c = let g = c.before.before in
+    refused_1 _ TritsWrong ((first g (omega (arith, c.if-l-gt-MAX_TRITS.false))).count_wrong (omega (arith, c.if-image-lt4.false)) (λ h. omega (arith, count g, c.if-l-eq0.true)))
 
 -- the count of section 1 is right, and its contents are there
 right : (c : tie.After-get4-l) → (c.get4-l.result ≡ 0 → ⊥) → 1 ≤ count_of (image c)
 right c h = omega (arith, count c, h)
 
 returns-4 : tie.Need-returns-then-image-size
-returns-4 c =
-    let b = image c.before.before.before in
-    refused_1 b ImageEnds ((first c.before.before.before (omega (arith, c.if-l-gt-MAX_TRITS.false))).contents_missing (omega (arith, c.if-image-lt4.false)) (right c.before.before.before c.if-l-eq0.false) (omega (arith, length-drop 4 b, count c.before.before.before, c.if-image-size.true)))
+returns-4 c = let g = c.before.before.before in
+    let b = image g in
+    refused_1 b ImageEnds ((first g (omega (arith, c.if-l-gt-MAX_TRITS.false))).contents_missing (omega (arith, c.if-image-lt4.false)) (right g c.if-l-eq0.false) (omega (arith, length-drop 4 b, count g, c.if-image-size.true)))
 
 -- the bytes of section 1, as the definition cuts them
 bytes_are : (c : tie.After-contents-bs) → let b = image c.before.before.before.before in c.contents-bs.result.now ≡ contents_of (size1 b) b
-bytes_are c = c.contents-bs.ensures.0 ∙ ap (λ (x : ℕ). contents_of (up x 5) (image c.before.before.before.before)) (count c.before.before.before.before)
+bytes_are c = let g = c.before.before.before.before in c.contents-bs.ensures.0 ∙ ap (λ (x : ℕ). contents_of (up x 5) (image g)) (count g)
 
 there : (c : tie.After-contents-bs) → fault1 (image c.before.before.before.before) ≡ contents_fault1 c.get4-l.result c.contents-bs.result.now
-there c =
-    let b = image c.before.before.before.before in
-    (first c.before.before.before.before (omega (arith, c.if-l-gt-MAX_TRITS.false))).contents_there (omega (arith, c.if-image-lt4.false)) (right c.before.before.before.before c.if-l-eq0.false)
-    (omega (arith, length-drop 4 b, count c.before.before.before.before, c.if-image-size.false))
-    ∙ (λ i. contents_fault1 (sym (count c.before.before.before.before) i) (sym (bytes_are c) i))
+there c = let g = c.before.before.before.before in
+    let b = image g in
+    (first g (omega (arith, c.if-l-gt-MAX_TRITS.false))).contents_there (omega (arith, c.if-image-lt4.false)) (right g c.if-l-eq0.false)
+    (omega (arith, length-drop 4 b, count g, c.if-image-size.false))
+    ∙ (λ i. contents_fault1 (sym (count g) i) (sym (bytes_are c) i))
 
 section1-requires : tie.Need-section1-requires
 section1-requires c κs = (c.contents-bs.ensures.1, omega (arith, c.if-l-eq0.false), omega (arith, c.if-l-gt-MAX_TRITS.false))
@@ -77,12 +77,12 @@ returns-5 c =
 
 returns-6 : tie.Need-returns-in-Sizes
 unfolding trits_of
-returns-6 c =
-    let b = image c.before.before.before.before.before.before.before.before in
-    let rest = c.after.ensures ∙ ap (λ (x : ℕ). rest_of (up x 5) b) (count c.before.before.before.before.before.before.before.before) in
+returns-6 c = let g = c.before.before.before.before.before.before.before.before in let cut = c.before.before.before.before in
+    let b = image g in
+    let rest = c.after.ensures ∙ ap (λ (x : ℕ). rest_of (up x 5) b) (count g) in
     examines_as c.from2.result
-    ((λ i. check2 (untrytes (count c.before.before.before.before.before.before.before.before i) (bytes_are c.before.before.before.before i)) (rest i)) ∙ sym (passed_1 b (there c.before.before.before.before ∙ (passed c.before.before).passed)))
-    ((λ i. laying (untrytes (count c.before.before.before.before.before.before.before.before i) (bytes_are c.before.before.before.before i)) (shadows2 (untrytes (count c.before.before.before.before.before.before.before.before i) (bytes_are c.before.before.before.before i)) (rest i))) ∙ sym (laid_out b))
+    ((λ i. check2 (untrytes (count g i) (bytes_are cut i)) (rest i)) ∙ sym (passed_1 b (there cut ∙ (passed c.before.before).passed)))
+    ((λ i. laying (untrytes (count g i) (bytes_are cut i)) (shadows2 (untrytes (count g i) (bytes_are cut i)) (rest i))) ∙ sym (laid_out b))
     c.from2.ensures
 
 pub examine_spec : {M : Type 1} → statement M

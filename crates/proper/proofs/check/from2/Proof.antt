@@ -65,16 +65,16 @@ from3-requires c κs =
     (_, _, known c.before.before c.if-right.true, c.requires.sized)
 
 returns-2 : tie.Need-returns-then-right
-returns-2 c =
+returns-2 c = let test = c.before.before.before in
     let taken = c.if-right.true in
     let twos = c.requires.sized.twos_are in
     let trits = untrytes c.args.l c.args.bs.now in
     let b = c.args.rest.now in
     let hs = c.contents-hs.ensures.0 in
     examines_as c.from3.result
-    ((λ i. check_given (given trits (from_bytes 2 (hs i))) (c.after.ensures i)) ∙ sym (second_passed trits b twos (front c.before.before.before.before.before) (sym (tested c.before.before.before) ∙ taken)))
+    ((λ i. check_given (given trits (from_bytes 2 (hs i))) (c.after.ensures i)) ∙ sym (second_passed trits b twos (front c.before.before.before.before.before) (sym (tested test) ∙ taken)))
     (ap (λ (l : List ℕ). laying trits (from_bytes 2 l)) hs ∙ ap (laying trits) (sym (shadows_2 trits b twos)))
-    (c.from3.ensures trits _ (known c.before.before.before taken) c.requires.sized)
+    (c.from3.ensures trits _ (known test taken) c.requires.sized)
 
 returns-3 : tie.Need-returns
 returns-3 c =

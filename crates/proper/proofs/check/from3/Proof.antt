@@ -62,14 +62,14 @@ count-marks-requires c κs =
     (p.0, p.1, marked c.before c.if-right.true p.0 p.1 p.2 p.3)
 
 lay-out-requires : tie.Need-lay_out-lay-requires
-lay-out-requires c κs =
+lay-out-requires c κs = let s = c.before.before.before.before.before.before.before.before.before in
     let p = c.requires in
     let h = c.count_marks-h.ensures p.0 p.1 (marked c.before.before c.if-right.true p.0 p.1 p.2 p.3) in
     let P = p.2.shadowed.proper in (
       omega (arith, p.3.trits_are, P.length_high),
-      few c.before.before.before.before.before.before.before.before.before,
+      few s,
       omega (arith, p.3.twos_are, P.paired, shadows_few P),
-      omega (arith, h, marked_few p.0 p.1, few c.before.before.before.before.before.before.before.before.before, p.3.nodes_are),
+      omega (arith, h, marked_few p.0 p.1, few s, p.3.nodes_are),
     )
 
 -- sections 1, 2 and 3 have passed
@@ -89,12 +89,12 @@ returns-2 c =
 
 returns-3 : tie.Need-returns-in-Proper
 unfolding given
-returns-3 c =
+returns-3 c = let laid = c.before.before.before in
     λ trits H K S. (
       sym (first_passed (section3 trits H) (given_from 1 trits H) _ (front3 trits H S.nodes_are).fills
           (sym (ap (fault 25) c.if-right.true) ∙ gives c.before.before.before.before.before.before trits H K S) _
-          (sym (ap checked_number c.in-Proper.is) ∙ c.from4.ensures trits H (through c.before.before.before trits H K S) ∙ ap (check_given (given_from 1 trits H)) c.after.ensures)),
-      (through c.before.before.before trits H K S).laid,
+          (sym (ap checked_number c.in-Proper.is) ∙ c.from4.ensures trits H (through laid trits H K S) ∙ ap (check_given (given_from 1 trits H)) c.after.ensures)),
+      (through laid trits H K S).laid,
     )
 
 returns-4 : tie.Need-returns

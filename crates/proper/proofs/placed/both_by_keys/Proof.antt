@@ -26,8 +26,8 @@ sample-twos-requires c κs =
 -- the samples
 sampled : (c : tie.After-sample_twos) → let x = c.args in
     (trits : List ℕ) → TritsIn trits x.bs.now → length trits ≡ x.l → TwosAt trits c.step_for-step.result c.sample_twos.new.twos
-sampled c trits T n =
-    rw (c.sample_twos.ensures trits T n) (samples_at trits _ _ (rw (n, c.requires.1) (last_low (step c.before.before.before))) (step c.before.before.before).some)
+sampled c trits T n = let s = c.before.before.before in
+    rw (c.sample_twos.ensures trits T n) (samples_at trits _ _ (rw (n, c.requires.1) (last_low (step s))) (step s).some)
 
 keys-right-requires : tie.Need-keys_right-requires
 keys-right-requires c κs =

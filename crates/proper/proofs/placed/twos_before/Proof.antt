@@ -22,14 +22,14 @@ here c trits T l = tryte_in T (c.args.p / 5) (omega arith) c.wide-x.ensures.0
 summed : (c : tie.After-two_count) → let x = c.args in
     (trits : List ℕ) → TritsIn trits x.bs.now → length trits ≡ x.l → x.p < x.l → TwosAt trits x.step x.twos.now
     → c.twos_whole-before.result + c.two_count.result ≡ rank 2 trits x.p
-summed c trits T n l W =
+summed c trits T n l W = let w = c.before.before in
     let x = c.args in
     let e : 5 * (x.p / 5) + x.p % 5 ≡ x.p = omega arith in
     omega (
       arith,
       c.twos_whole-before.ensures trits T n W,
-      c.two_count.ensures.0 ∙ ap (λ (k : ℕ). tryte_count 2 k 5) c.tryte_cut-front.ensures ∙ front_twos c.wide-x.result (x.p % 5) (here c.before.before trits T (omega arith)).low (omega arith),
-      rw e at (rank_more (here c.before.before trits T (omega arith)) 2 (x.p % 5) (omega arith) (omega arith)),
+      c.two_count.ensures.0 ∙ ap (λ (k : ℕ). tryte_count 2 k 5) c.tryte_cut-front.ensures ∙ front_twos c.wide-x.result (x.p % 5) (here w trits T (omega arith)).low (omega arith),
+      rw e at (rank_more (here w trits T (omega arith)) 2 (x.p % 5) (omega arith) (omega arith)),
     )
 
 pub twos_before_spec : {M : Type 1} → statement M

@@ -50,7 +50,7 @@ twos_near_spec =
     tie.close (tie.spec (λ c. omega (arith, few c.before, c.requires.1, c.requires.4.4))
     (λ c. search (rules, c.requires.3.some))
     (λ c κs. omega (arith, (nearest c.before.before).low))
-    (λ c. omega (arith, few c.before.before.before, (nearest c.before.before.before).early))
+    (λ c. let s = c.before.before.before in omega (arith, few s, (nearest s).early))
     (λ c κs. search rules)
     (λ c κs. search rules)
     (λ c. omega (arith, few c.before.before.before.before.before, reach c.before, c.requires.4.4))
