@@ -15,20 +15,21 @@ use Rattle.listing.proofs.LineLaws.{begin_listing}
 use Rattle.listing.proofs.put_listing.Statement.{statement}
 use Rattle.listing.proofs.put_listing.Tie as tie
 
-laid : (c : tie.After-lay) → c.lay.given.0.0 ≡ layout_of c.before.before.before.before.before.args.image.now
-laid c = (subst (Examines _ _) c.lay.given.1 c.before.before.examine.ensures).1
+laid : (c : tie.In-Proper) → c.in-Proper.lay ≡ layout_of c.args.image.now
+laid c = (subst (Examines _ _) c.in-Proper.is c.examine.ensures).1
 
 -- the lines of the nodes are left
-counted : (c : tie.After-put-counts) → let x = c.before.before.before.before.before.before.before.before.args in
+counted : (c : tie.After-put_counts-end) → let x = c.args in
     let ts = trits_of x.image.now in let hs = shadows_of x.image.now in
-    Left x.text.now 0 (listing ts hs) c.put-counts.new.0 c.put-counts.result (join (map (node_line ts hs) (one_to (node_count ts))) ∷ [])
+    Left x.text.now 0 (listing ts hs) c.put_counts-end.new.text c.put_counts-end.result (join (map (node_line ts hs) (one_to (node_count ts))) ∷ [])
 counted c =
-    let x = c.before.before.before.before.before.before.before.before in
-    next (begin_listing (trits_of x.args.image.now) (shadows_of x.args.image.now) x.requires.1) c.put-counts.ensures
+    next (begin_listing (trits_of c.args.image.now) (shadows_of c.args.image.now) c.requires.1) c.put_counts-end.ensures
 
-pub put-listing-spec : {M : Type 1} → statement M
-put-listing-spec =
-    tie.close (tie.spec (λ c κs. search rules) (λ c. search rules) (λ c. search rules)
+pub put_listing_spec : {M : Type 1} → statement M
+put_listing_spec =
+    tie.close (tie.spec (λ c κs. search rules)
+    (λ c. search rules)
+    (λ c. search rules)
     (λ c.
     let e = c.before.before in
     absurd (omega (arith, refusal_some c.enum_told.given.0.0, subst (Examines _ _) c.enum_told.given.1 e.examine.ensures, e.before.before.before.requires.0)))
@@ -43,4 +44,4 @@ put-listing-spec =
     let l = n.before.before.before in
     (record { proper = l.before.before.before.before.before.requires.0; trytes = t.tryte-table.ensures; laid = laid l }, fits (counted n)))
     (λ c. search rules)
-    (λ c. let l = c.before.before in finish (next (counted l.before.before.before.before.before.before) l.put-nodes.ensures)))
+    (λ c. finish (next (counted c.before.before.before.before.before.before.before.before) c.put_nodes.ensures)))

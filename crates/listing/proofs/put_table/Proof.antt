@@ -19,33 +19,34 @@ use Rattle.listing.proofs.put_table.Tie as tie
 abbrev start : tie.After-pack → tie.Start
 start p = p.before.before.before.before.before.before
 
-refused : (c : tie.After-f) → let p = c.before.before.before.before.before in
-    refusal (refusal_number c.f.given.0.0) ≡ table_text (read_table (start p).args.table.now)
+refused : (c : tie.In-Refused) → refusal (refusal_number c.in-Refused.f) ≡ table_text (read_table c.args.table.now)
 refused c =
-    let p = c.before.before.before.before.before in
-    let x = start p in
-    let o = p.pack.new.1 in
-    refused_text x.args.table.now x.pre.0 _ _ _
+    let o = c.pack.new.1 in
+    refused_text c.args.table.now c.requires.0 _ _ _
     (omega (arith, length-replicate {A = ℕ} 4000 0)) (omega (arith, length-replicate {A = ℕ} 12000 0)) (omega (arith, length-replicate {A = ℕ} 32768 0))
-    c.f.given.0.0 (p.pack.ensures ∙ ap (λ (r : Packed). pack_leaves r o.0 o.1.0 o.1.1.0) c.f.given.1)
+    c.in-Refused.f (c.pack.ensures ∙ ap (λ (r : Packed). pack_leaves r o.0 o.1.0 o.1.1.0) c.in-Refused.is)
 
-packed : (c : tie.After-size) → let p = c.before.before.before.before.before in let bytes = p.pack.new.1.1.1.0 in
-    (c.size.given.0.0 ≤ length bytes) × Packs (start p).args.table.now (take c.size.given.0.0 bytes)
+packed : (c : tie.In-Image) → let bytes = c.pack.new.image in
+    (c.in-Image.size ≤ length bytes) × Packs c.args.table.now (take c.in-Image.size bytes)
 packed c =
-    let p = c.before.before.before.before.before in
-    let o = p.pack.new.1 in
-    packs (start p).args.table.now _ _ _
-    (p.pack.ensures ∙ ap (λ (r : Packed). pack_leaves r o.0 o.1.0 o.1.1.0) c.size.given.1)
+    let o = c.pack.new.1 in
+    packs c.args.table.now _ _ _
+    (c.pack.ensures ∙ ap (λ (r : Packed). pack_leaves r o.0 o.1.0 o.1.1.0) c.in-Image.is)
 
-pub put-table-spec : {M : Type 1} → statement M
-put-table-spec =
-    tie.close (tie.spec (λ c. search rules) (λ c. search rules) (λ c. search rules) (λ c κs. search rules) (λ c. search rules)
+pub put_table_spec : {M : Type 1} → statement M
+put_table_spec =
+    tie.close (tie.spec (λ c. search rules)
+    (λ c. search rules)
+    (λ c. search rules)
+    (λ c κs. search rules)
+    (λ c. search rules)
     (λ c κs.
     let f = c.before.before in
     let p = f.before.before.before.before.before in
     subst (Room _ 0) (sym (refused f)) (start p).requires.1)
-    (λ c. search rules) (λ c. (packed c.before.before).0)
-    (λ c. simp length-take (omega (arith, (packed c.before.before.before).0)))
+    (λ c. search rules)
+    (λ c. (packed c.before).0)
+    (λ c. simp length-take (omega (arith, (packed c.before.before).0)))
     (λ c κs.
     let s = c.before.before.before in
     let p = s.before.before.before.before.before in

@@ -8,26 +8,29 @@ use Rattle.listing.proofs.TableLaws.{words_many, word_at}
 use Rattle.listing.proofs.read_words.Statement.{statement}
 use Rattle.listing.proofs.read_words.Tie as tie
 
-abbrev invariant-loop : tie.invariant-loop
+abbrev invariant-loop : tie.invariant-loop-i
 invariant-loop input words₀ count i₀ words i = Over (from_bytes 2 input) count words₀ words i
 
-abbrev decreases-loop : tie.decreases-loop
+abbrev decreases-loop : tie.decreases-loop-i
 decreases-loop input words₀ count i₀ words i = count - i
 
-pub read-words-spec : {M : Type 1} → statement M
-read-words-spec =
-    tie.close (tie.spec invariant-loop decreases-loop
-    (λ c. let x = c.before.before in over_none _ _ _ (words_many x.args.input.now x.requires.0) (omega (arith, x.requires.1)))
-    (λ c. omega arith) (λ c κs. omega arith)
+pub read_words_spec : {M : Type 1} → statement M
+read_words_spec =
+    tie.close (tie.spec invariant-loop
+    decreases-loop
+    (λ c. over_none _ _ _ (words_many c.args.input.now c.requires.0) (omega (arith, c.requires.1)))
+    (λ c. omega arith)
+    (λ c κs. omega arith)
     (λ c. omega (arith, c.get2.ensures.1))
     (λ c. omega arith)
-    (λ c. omega (arith, over_length c.before.before.loop.invariant, c.before.before.before.before.before.requires.1))
-    (λ c. omega arith) (λ c. omega arith)
+    (λ c. omega (arith, over_length c.loop-i.invariant, c.requires.1))
+    (λ c. omega arith)
+    (λ c. omega arith)
     (λ c.
     let t = c.before in
     let x = t.before.before.before.before in
     over_next t.before.loop.invariant t.loop-test.true _ (c.get2.ensures.0 ∙ word_at x.args.input.now x.requires.0 _ t.loop-test.true))
-    (λ c. over_length c.before.loop.invariant)
+    (λ c. over_length c.loop-i.invariant)
     (λ c.
     let x = c.before.before.before.before in
     (sym (words_many x.args.input.now x.requires.0), over_done c.before.loop.invariant c.loop-test.false)))

@@ -11,20 +11,22 @@ use Rattle.unpacking.proofs.RowLaws.{roots_last}
 use Rattle.unpacking.proofs.put_table.Statement.{statement}
 use Rattle.unpacking.proofs.put_table.Tie as tie
 
-sub_at : tie.Need-overflow-sub-at
-sub_at c = omega (arith, sizes c.before.before.requires.0)
+sub_at : tie.Need-overflow_sub-at
+sub_at c = omega (arith, sizes c.requires.0)
 
-put-roots-requires : tie.Need-put-roots-requires
-put-roots-requires c κs = omega (arith, sizes c.before.before.before.before.before.before.before.requires.0)
+put-roots-requires : tie.Need-put_roots-requires
+put-roots-requires c κs = omega (arith, sizes c.requires.0)
 
 returns : tie.Need-returns
 returns c =
-    let t = c.before.before in
-    let w = t.before.before.before.before in
-    let o = w.before.before.before.before in
-    t.put-roots.ensures
-    ∙ ap (λ (l : List ℕ). put_at l (o.args.lay.trits - o.args.lay.roots + 1) (one_to o.args.lay.roots)) w.put-rows.ensures
-    ∙ roots_last o.requires.0 o.args.table.now o.requires.1
+    c.put_roots.ensures
+    ∙ ap (λ (l : List ℕ). put_at l (c.args.lay.trits - c.args.lay.roots + 1) (one_to c.args.lay.roots)) c.put_rows.ensures
+    ∙ roots_last c.requires.0 c.args.table.now c.requires.1
 
-pub put-table-spec : {M : Type 1} → statement M
-put-table-spec = tie.close (tie.spec sub_at (λ c. search rules) (λ c κs. search rules) put-roots-requires (λ c. search rules) returns)
+pub put_table_spec : {M : Type 1} → statement M
+put_table_spec = tie.close (tie.spec sub_at
+    (λ c. search rules)
+    (λ c κs. search rules)
+    put-roots-requires
+    (λ c. search rules)
+    returns)

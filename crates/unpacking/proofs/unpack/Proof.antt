@@ -9,35 +9,35 @@ use Rattle.unpacking.proofs.OutcomeLaws.{unpack_refused, unpack_short, unpack_wh
 use Rattle.unpacking.proofs.unpack.Statement.{statement}
 use Rattle.unpacking.proofs.unpack.Tie as tie
 
--- the call
-abbrev start : tie.After-lay → tie.Start
-start c = c.before.before.before.before.before
-
 -- the image is accepted, and this is its layout
-laid : (c : tie.After-lay) → Laid (start c).args.image.now c.lay.given.0.0
+laid : (c : tie.In-Proper) → Laid c.args.image.now c.in-Proper.lay
 laid c =
-    let e = c.before.before in
-    let x = subst (Examines _ _) c.lay.given.1 e.examine.ensures in
-    accepted e.before.before.shared-slice-known.given x.0 x.1
+    let x = subst (Examines _ _) c.in-Proper.is c.examine.ensures in
+    accepted c.shared_slice_known-1.given x.0 x.1
 
-returns : tie.Need-returns
-returns c = let l = c.before.before in unpack_short (laid l) (start l).args.table.now (omega arith)
+returns : tie.Need-returns-then-table-trits
+returns c = unpack_short (laid c.before) c.args.table.now (omega arith)
 
-put-table-requires : tie.Need-put-table-requires
-put-table-requires c κs = (laid c.before.before.before, omega arith)
+put-table-requires : tie.Need-put_table-requires
+put-table-requires c κs = (laid c.before.before, omega arith)
 
-returns-2 : tie.Need-returns-2
+returns-2 : tie.Need-returns-in-Refused
 returns-2 c =
-    let x = c.before.before.before.before.before.before.args in
-    unpack_refused x.image.now x.table.now c.before.f.given.0.0 (subst (Examines _ _) c.before.f.given.1 c.before.before.before.examine.ensures)
+    let x = c.args in
+    unpack_refused x.image.now x.table.now c.in-Refused.f (subst (Examines _ _) c.in-Refused.is c.examine.ensures)
 
-returns-3 : tie.Need-returns-3
+returns-3 : tie.Need-returns-else-table-trits
 returns-3 c =
-    let w = c.before.before in
-    let t = w.before.before in
-    unpack_whole (laid t.before.before) _ (omega arith) _ w.put-table.ensures
+    unpack_whole (laid c.before.before.before.before.before) _ (omega arith) _ c.put_table.ensures
 
-pub unpack-spec : {M : Type 1} → statement M
-unpack-spec =
-    tie.close (tie.spec (λ c κs. search rules) (λ c. search rules) (λ c. search rules) returns put-table-requires (λ c. omega arith)
-    returns-2 (λ c. search rules) returns-3)
+pub unpack_spec : {M : Type 1} → statement M
+unpack_spec =
+    tie.close (tie.spec (λ c κs. search rules)
+    (λ c. search rules)
+    (λ c. search rules)
+    returns
+    put-table-requires
+    (λ c. omega arith)
+    returns-2
+    (λ c. search rules)
+    returns-3)

@@ -6,18 +6,21 @@ use Rattle.asking.proofs.BatchTurns.{as_number}
 use Rattle.asking.proofs.batch.ask.Statement.{statement}
 use Rattle.asking.proofs.batch.ask.Tie as tie
 
-ran : tie.Need-returns
+ran : tie.Need-returns-in-Ran
 ran c =
-    let batched = c.before.before.before.before.before in
-    as_number batched.batch.result.asked batched.batch.ensures (ap asked_number c.enum_told.given.1)
+    as_number c.batch-done.result.asked c.batch-done.ensures (ap asked_number c.in-Ran.is)
 
-refused : tie.Need-returns-2
+refused : tie.Need-returns-in-Refused
 refused c =
-    let told = c.before.before in
-    let batched = told.before.before.before.before.before in
-    as_number batched.batch.result.asked batched.batch.ensures (ap asked_number told.asked.given.1 ∙ sym c.number.ensures)
+    as_number c.batch-done.result.asked c.batch-done.ensures (ap asked_number c.in-Refused.is ∙ sym c.number-code.ensures)
 
-pub ask-spec : {M : Type 1} → statement M
-ask-spec =
-    tie.close (tie.spec (λ c κs. search rules) (λ c. search rules) (λ c. search rules) (λ c κs. search rules) (λ c. search rules) ran
-    (λ c. search rules) refused)
+pub ask_spec : {M : Type 1} → statement M
+ask_spec =
+    tie.close (tie.spec (λ c κs. search rules)
+    (λ c. search rules)
+    (λ c. search rules)
+    (λ c κs. search rules)
+    (λ c. search rules)
+    ran
+    (λ c. search rules)
+    refused)

@@ -6,12 +6,20 @@ use Rattle.asking.proofs.batch.ask_one.Tie as tie
 
 returns : tie.Need-returns
 returns c =
-    let w = c.before.before in
-    let a = w.before.before in
-    let x = a.before.before.before.before.before.before.before.args in
-    put_same a.answer.ensures x.answers.now x.at w.put-answer.ensures.0 w.put-answer.ensures.1
+    let x = c.args in
+    put_same c.answer-found.ensures x.answers.now x.at c.put_answer.ensures.0 c.put_answer.ensures.1
 
-pub ask-one-spec : {M : Type 1} → statement M
-ask-one-spec =
-    tie.close (tie.spec (λ c. search rules) (λ c. search rules) (λ c. search rules) (λ c. search rules) (λ c. search rules)
-    (λ c. search rules) (λ c. search rules) (λ c. search rules) (λ c κs. search rules) (λ c κs. search rules) (λ c. search rules) returns)
+pub ask_one_spec : {M : Type 1} → statement M
+ask_one_spec =
+    tie.close (tie.spec (λ c. search rules)
+    (λ c. search rules)
+    (λ c. search rules)
+    (λ c. search rules)
+    (λ c. search rules)
+    (λ c. search rules)
+    (λ c. search rules)
+    (λ c. search rules)
+    (λ c κs. search rules)
+    (λ c κs. search rules)
+    (λ c. search rules)
+    returns)

@@ -10,34 +10,33 @@ use Rattle.asking.specs.BatchSteps.{Roomy}
 use Rattle.asking.proofs.batch.batch.Statement.{statement}
 use Rattle.asking.proofs.batch.batch.Tie as tie
 
-not-threes : tie.Need-returns
+not-threes : tie.Need-returns-then-words-ne0
 not-threes c =
-    let x = c.before.before.before.before.args in
-    batch_41 x.image.now x.questions.now x.answers.now x.tally (λ e. omega (arith, c.if1.true))
+    let x = c.args in
+    batch_41 x.image.now x.questions.now x.answers.now x.tally (λ e. omega (arith, c.if-words-ne0.true))
 
-too_short : tie.Need-returns-2
+too_short : tie.Need-returns-then-answers-words
 too_short c =
-    let x = c.before.before.before.before.before.args in
-    batch_42 x.image.now x.questions.now x.answers.now x.tally (omega (arith, c.before.if1.false)) (omega (arith, c.if2.true))
+    let x = c.args in
+    batch_42 x.image.now x.questions.now x.answers.now x.tally (omega (arith, c.if-words-ne0.false)) (omega (arith, c.if-answers-words.true))
 
 run-requires : tie.Need-run-requires
 run-requires c κs =
-    let f = c.before in
-    let r = f.before in
-    let s = r.before in
-    let x = s.before.before.before.before.before.args in
-    (omega (arith, s.before.if1.false), omega (arith, s.if2.false), subst (λ (b : Bool). Roomy b x.tally (length x.questions.now / 3)) f.if3.true r.roomy.ensures)
+    let x = c.args in
+    (omega (arith, c.if-words-ne0.false), omega (arith, c.if-answers-words.false), subst (λ (b : Bool). Roomy b x.tally (length x.questions.now / 3)) c.if-fits.true c.roomy-fits.ensures)
 
-full : tie.Need-returns-4
+full : tie.Need-returns
 full c =
-    let r = c.before in
-    let s = r.before in
-    let x = s.before.before.before.before.before.args in
-    batch_43 x.image.now x.questions.now x.answers.now x.tally (omega (arith, s.before.if1.false)) (omega (arith, s.if2.false))
-    (subst (λ (b : Bool). Roomy b x.tally (length x.questions.now / 3)) c.if3.false r.roomy.ensures)
+    let x = c.args in
+    batch_43 x.image.now x.questions.now x.answers.now x.tally (omega (arith, c.if-words-ne0.false)) (omega (arith, c.if-answers-words.false))
+    (subst (λ (b : Bool). Roomy b x.tally (length x.questions.now / 3)) c.if-fits.false c.roomy-fits.ensures)
 
-pub batch-spec : {M : Type 1} → statement M
-batch-spec =
-    tie.close (tie.spec not-threes too_short (λ c κs. search rules) run-requires (λ c. search rules)
-    (λ c. c.before.before.run.ensures)
+pub batch_spec : {M : Type 1} → statement M
+batch_spec =
+    tie.close (tie.spec not-threes
+    too_short
+    (λ c κs. search rules)
+    run-requires
+    (λ c. search rules)
+    (λ c. c.run.ensures)
     full)

@@ -7,33 +7,36 @@ use Rattle.asking.proofs.BatchTurns.{put_same, not_good}
 use Rattle.asking.proofs.batch.put_answer.Statement.{statement}
 use Rattle.asking.proofs.batch.put_answer.Tie as tie
 
-value : tie.Need-returns
+value : tie.Need-returns-in-Value
 value c =
-    let w = c.before.before in
-    let a = w.before.before.before in
-    let x = a.before.before.before.args in
-    put_same (sym (ap answer_numbers a.answer.given.1)) x.answers.now x.at refl w.put_three.ensures
+    let x = c.args in
+    put_same (sym (ap answer_numbers c.in-Value.is)) x.answers.now x.at refl c.put_three.ensures
 
-listed : tie.Need-returns-2
+listed : tie.Need-returns-in-Listed
 listed c =
-    let w = c.before.before in
-    let n = w.before.before in
-    let a = n.before.before in
-    let x = a.before.before.before.args in
-    put_same (ap (says 0 a.answer2.given.0.0.node) n.sort-number.ensures ∙ sym (ap answer_numbers a.answer2.given.1))
-    x.answers.now x.at refl w.put-three2.ensures
+    let x = c.args in
+    put_same (ap (says 0 c.in-Listed.neighbour.node) c.sort_number-sort.ensures ∙ sym (ap answer_numbers c.in-Listed.is))
+    x.answers.now x.at refl c.put_three-in-Listed.ensures
 
-refuses : tie.Need-returns-3
+refuses : tie.Need-returns-in-Refused
 refuses c =
-    let w = c.before.before in
-    let n = w.before.before in
-    let a = n.before.before in
-    let x = a.before.before.before.args in
-    put_same (ap refused n.number.ensures ∙ sym (ap answer_numbers a.answer3.given.1))
-    x.answers.now x.at (not_good a.answer3.given.0.0 _ n.number.ensures) w.put-three3.ensures
+    let x = c.args in
+    put_same (ap refused c.number-code.ensures ∙ sym (ap answer_numbers c.in-Refused.is))
+    x.answers.now x.at (not_good c.in-Refused.f _ c.number-code.ensures) c.put_three-in-Refused.ensures
 
-pub put-answer-spec : {M : Type 1} → statement M
-put-answer-spec =
-    tie.close (tie.spec (λ c. search rules) (λ c κs. search rules) (λ c. search rules) (λ c κs. search rules) (λ c κs. search rules)
-    (λ c. search rules) (λ c κs. search rules) (λ c κs. search rules) (λ c. search rules) value (λ c. search rules) listed
-    (λ c. search rules) refuses)
+pub put_answer_spec : {M : Type 1} → statement M
+put_answer_spec =
+    tie.close (tie.spec (λ c. search rules)
+    (λ c κs. search rules)
+    (λ c. search rules)
+    (λ c κs. search rules)
+    (λ c κs. search rules)
+    (λ c. search rules)
+    (λ c κs. search rules)
+    (λ c κs. search rules)
+    (λ c. search rules)
+    value
+    (λ c. search rules)
+    listed
+    (λ c. search rules)
+    refuses)

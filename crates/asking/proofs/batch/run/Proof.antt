@@ -10,52 +10,41 @@ use Rattle.asking.proofs.BatchTurns.{run_refused, found_few, run_whole}
 use Rattle.asking.proofs.batch.run.Statement.{statement}
 use Rattle.asking.proofs.batch.run.Tie as tie
 
--- the call, from the layout found and from the answers given
-abbrev start : tie.After-lay → tie.Start
-start c = c.before.before.before.before.before.before
-
-abbrev found : tie.After-ask-all → tie.After-lay
-found c = c.before.before.before.before.before
-
 -- the image is proper, and this is its layout
-proper : (c : tie.After-lay) → let image = (start c).args.image.now in (check_image image ≡ 0) × (c.lay.given.0.0 ≡ layout_of image)
-proper c = subst (Examines _ _) c.lay.given.1 c.before.before.examine.ensures
+proper : (c : tie.In-Proper) → let image = c.args.image.now in (check_image image ≡ 0) × (c.in-Proper.lay ≡ layout_of image)
+proper c = subst (Examines _ _) c.in-Proper.is c.examine.ensures
 
-refuses : tie.Need-returns
+refuses : tie.Need-returns-in-Refused
 refuses c =
-    let f = c.before.f.given in
-    let e = c.before.before.before in
-    let x = e.before.before.before.before in
-    run_refused x.args.image.now x.args.questions.now x.args.answers.now x.args.tally x.requires.0 x.requires.1 x.requires.2
-    f.0.0 (subst (Examines _ _) f.1 e.examine.ensures)
+    run_refused c.args.image.now c.args.questions.now c.args.answers.now c.args.tally c.requires.0 c.requires.1 c.requires.2
+    c.in-Refused.f (subst (Examines _ _) c.in-Refused.is c.examine.ensures)
 
-ask-all-requires : tie.Need-ask-all-requires
+ask-all-requires : tie.Need-ask_all-found-requires
 ask-all-requires c κs =
-    let t = c.before.before in
-    let l = t.before.before in
-    let p = proper l in
-    let x = start l in
-    (p.0, t.tryte-table.ensures, p.1, x.pre.0, x.pre.1)
+    let p = proper c.before.before.before in
+    (p.0, c.tryte_table-table.ensures, p.1, c.requires.0, c.requires.1)
 
-few : (c : tie.After-ask-all) → c.ask-all.result ≤ length (start (found c)).args.questions.now / 3
+few : (c : tie.After-ask_all-found) → c.ask_all-found.result ≤ length c.args.questions.now / 3
 few c =
-    let x = start (found c) in
-    found_few x.args.image.now x.args.questions.now x.pre.0 _ c.ask-all.ensures.0
+    found_few c.args.image.now c.args.questions.now c.requires.0 _ c.ask_all-found.ensures.0
 
 count-requires : tie.Need-count-requires
 count-requires c κs =
-    let a = c.before.before in
-    ((start (found a)).requires.2, few a)
+    (c.requires.2, few c.before.before)
 
-ran : tie.Need-returns-2
+ran : tie.Need-returns-in-Proper
 ran c =
-    let a = c.before.before.before in
-    let l = found a in
-    let x = start l in
-    run_whole x.args.image.now x.args.questions.now x.args.answers.now x.args.tally x.pre.0 x.pre.1 x.pre.2
-    (proper l).0 _ a.ask-all.ensures.0 _ a.ask-all.ensures.1 _ c.count.ensures
+    run_whole c.args.image.now c.args.questions.now c.args.answers.now c.args.tally c.requires.0 c.requires.1 c.requires.2
+    (proper c.before.before.before.before.before.before.before).0 _ c.ask_all-found.ensures.0 _ c.ask_all-found.ensures.1 _ c.count.ensures
 
 pub run_spec : {M : Type 1} → statement M
 run_spec =
-    tie.close (tie.spec (λ c κs. search rules) (λ c. search rules) (λ c. search rules) (λ c κs. search rules) ask-all-requires
-    count-requires refuses (λ c. search rules) ran)
+    tie.close (tie.spec (λ c κs. search rules)
+    (λ c. search rules)
+    (λ c. search rules)
+    (λ c κs. search rules)
+    ask-all-requires
+    count-requires
+    refuses
+    (λ c. search rules)
+    ran)

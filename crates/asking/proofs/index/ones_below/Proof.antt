@@ -12,8 +12,8 @@ use Rattle.asking.proofs.index.ones_below.Tie as tie
 few : (c : tie.Start) → let x = c.args.w % ((1 * 2 ^ c.args.i) % 2 ^ 64) in ones x ≤ 64
 few c = let x = c.args.w % ((1 * 2 ^ c.args.i) % 2 ^ 64) in ones-le 64 x (omega (arith, mod-le c.args.w ((1 * 2 ^ c.args.i) % 2 ^ 64), c.ranges.w))
 
-pub ones-below-spec : {M : Type 1} → statement M
-ones-below-spec =
+pub ones_below_spec : {M : Type 1} → statement M
+ones_below_spec =
     tie.close (tie.spec (λ c. search rules)
     (λ c. shifted_pos c.args.i c.requires)
     (λ c. omega (arith, few c))

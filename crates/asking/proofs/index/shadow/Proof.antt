@@ -8,10 +8,12 @@ use Rattle.asking.proofs.EntryLaws.{Entry, entry_2}
 use Rattle.asking.proofs.index.shadow.Statement.{statement}
 use Rattle.asking.proofs.index.shadow.Tie as tie
 
-here : (c : tie.After-shared-slice-known) → let a = c.before.args in let b = a.image.now in Entry b 2 (a.lay.at2 + 2 * a.i) (get_or (shadows_of b) a.i 0)
-here c = let x = c.before in entry_2 x.requires.0 x.args.i x.requires.1
+here : (c : tie.After-shared_slice_known-1) → let a = c.args in let b = a.image.now in Entry b 2 (a.lay.at2 + 2 * a.i) (get_or (shadows_of b) a.i 0)
+here c = entry_2 c.requires.0 c.args.i c.requires.1
 
-pub shadow-spec : {M : Type 1} → statement M
-shadow-spec =
-    tie.close (tie.spec (λ c. omega (arith, here c)) (λ c. omega (arith, here c)) (λ c κs. (here c).inside)
+pub shadow_spec : {M : Type 1} → statement M
+shadow_spec =
+    tie.close (tie.spec (λ c. omega (arith, here c))
+    (λ c. omega (arith, here c))
+    (λ c κs. (here c).inside)
     (λ c. c.get2.ensures.0 ∙ (here c.before).reads))

@@ -9,45 +9,41 @@ use Rattle.asking.proofs.KindLaws.{right, ones_few, Twos, twos, edge_real, edge_
 use Rattle.asking.proofs.question.edge.Statement.{statement}
 use Rattle.asking.proofs.question.edge.Tie as tie
 
-few : (c : tie.After-shared-slice-known) → c.before.args.before.ones ≤ 30000
-few c = let x = c.before in omega (arith, ap (λ r. r.ones) x.requires.1.ranks_are, ones_few (right x.requires.0) x.args.p)
+few : (c : tie.After-shared_slice_known-1) → c.args.before.ones ≤ 30000
+few c = omega (arith, ap (λ r. r.ones) c.requires.1.ranks_are, ones_few (right c.requires.0) c.args.p)
 
-real : tie.Need-returns
+real : tie.Need-returns-then-t-eq1
 real c =
-    let x = c.before.before.before in
-    let E = x.requires.1 in
-    c.listed.ensures ∙ edge_real (right x.requires.0) x.args.p (sym E.trit_is ∙ c.before.if1.true) (ap (λ r. r.ones) E.ranks_are) (omega arith)
+    let E = c.requires.1 in
+    c.listed.ensures ∙ edge_real (right c.requires.0) c.args.p (sym E.trit_is ∙ c.if-t-eq1.true) (ap (λ r. r.ones) E.ranks_are) (omega arith)
 
-left : (c : tie.Else1) → let x = c.before.before in Twos (right x.requires.0) x.args.p x.args.before.zeros x.args.before.ones
+left : (c : tie.Else-t-eq1) → Twos (right c.requires.0) c.args.p c.args.before.zeros c.args.before.ones
 left c =
-    let x = c.before.before in
-    let E = x.requires.1 in
-    twos (right x.requires.0) E.inside (ap (λ r. r.zeros) E.ranks_are) (ap (λ r. r.ones) E.ranks_are)
+    let E = c.requires.1 in
+    twos (right c.requires.0) E.inside (ap (λ r. r.zeros) E.ranks_are) (ap (λ r. r.ones) E.ranks_are)
 
-two : (c : tie.Else1) → let x = c.before.before in get_or (trits_of x.args.image.now) x.args.p 0 ≡ 2
+two : (c : tie.Else-t-eq1) → get_or (trits_of c.args.image.now) c.args.p 0 ≡ 2
 two c =
-    let x = c.before.before in
-    let E = x.requires.1 in
-    omega (arith, c.if1.false, E.trit_is, E.no_zero, (right x.requires.0).threes x.args.p E.inside)
+    let E = c.requires.1 in
+    omega (arith, c.if-t-eq1.false, E.trit_is, E.no_zero, (right c.requires.0).threes c.args.p E.inside)
 
 shadow-listed : tie.Need-listed-requires-2
 shadow-listed c κs =
-    let x = c.before.before.before in
-    let b = x.args.image.now in
-    omega (arith, c.shadow.ensures, shadows_small (trits_of b) (shadows_of b) (right x.requires.0) _ ((left c.before).inside (two c.before)))
+    let b = c.args.image.now in
+    omega (arith, c.shadow.ensures, shadows_small (trits_of b) (shadows_of b) (right c.requires.0) _ ((left c.before).inside (two c.before)))
 
-shadow : tie.Need-returns-2
-shadow c =
-    let e = c.before.before in
-    let x = e.before.before in
-    c.listed2.ensures
-    ∙ edge_shadow (right x.requires.0) x.args.p (two e) (c.before.shadow.ensures ∙ ap (λ k. get_or (shadows_of x.args.image.now) k 0) (left e).left) (omega arith)
+shadow : tie.Need-returns
+shadow c = let e = c.before.before in
+    c.listed-2.ensures
+    ∙ edge_shadow (right c.requires.0) c.args.p (two e) (c.shadow.ensures ∙ ap (λ k. get_or (shadows_of c.args.image.now) k 0) (left e).left) (omega arith)
 
-pub edge-spec : {M : Type 1} → statement M
-edge-spec =
-    tie.close (tie.spec
-    (λ c. omega (arith, few c.before))
+pub edge_spec : {M : Type 1} → statement M
+edge_spec =
+    tie.close (tie.spec (λ c. omega (arith, few c.before))
     (λ c κs. omega (arith, few c.before))
-    real (λ c. omega (arith, (left c).room)) (λ c. omega (arith, (left c).room))
-    (λ c κs. (c.before.before.requires.0, (left c).inside (two c)))
-    shadow-listed shadow)
+    real
+    (λ c. omega (arith, (left c).room))
+    (λ c. omega (arith, (left c).room))
+    (λ c κs. (c.requires.0, (left c).inside (two c)))
+    shadow-listed
+    shadow)

@@ -10,66 +10,58 @@ use Rattle.asking.proofs.KindLaws.{zero_there, operand_zero, operand_outside, op
 use Rattle.asking.proofs.question.operand.Statement.{statement}
 use Rattle.asking.proofs.question.operand.Tie as tie
 
-no-zeroth : tie.Need-returns
-no-zeroth c = let x = c.before.before in operand_zero x.requires.0 c.if1.true
+no-zeroth : tie.Need-returns-then-b-eq0
+no-zeroth c = operand_zero c.requires.0 c.if-b-eq0.true
 
-place-requires : tie.Need-place-requires
+place-requires : tie.Need-place-zero-requires
 place-requires c κs =
-    let x = c.before.before in
-    (x.requires.0.laid, x.requires.1, lit< tt, x.requires.0.low, omega (arith, zero_there x.requires.0))
+    (c.requires.0.laid, c.requires.1, lit< tt, c.requires.0.low, omega (arith, zero_there c.requires.0))
 
-sub-trits : tie.Need-overflow-sub-if2
-sub-trits c = let x = c.before.before.before in omega (arith, c.place.ensures.inside, trits_is x.requires.0.laid)
+sub-trits : tie.Need-overflow_sub-trits
+sub-trits c = omega (arith, c.place-zero.ensures.inside, trits_is c.requires.0.laid)
 
-past_end : tie.Need-returns-2
+past_end : tie.Need-returns-then-trits-zero
 past_end c =
-    let s = c.before in
-    let x = s.before.before.before in
-    operand_outside x.requires.0 (omega (arith, s.before.if1.false)) s.place.ensures (omega (arith, c.if2.true, trits_is x.requires.0.laid))
+    operand_outside c.requires.0 (omega (arith, c.if-b-eq0.false)) c.place-zero.ensures (omega (arith, c.if-trits-zero.true, trits_is c.requires.0.laid))
 
-inside : (c : tie.Else2) → let x = c.before.before.before.before in c.before.place.result + x.args.b < length (trits_of x.args.image.now)
-inside c = let x = c.before.before.before.before in omega (arith, c.if2.false, c.before.place.ensures.inside, trits_is x.requires.0.laid)
+inside : (c : tie.Else-trits-zero) → c.place-zero.result + c.args.b < length (trits_of c.args.image.now)
+inside c = omega (arith, c.if-trits-zero.false, c.place-zero.ensures.inside, trits_is c.requires.0.laid)
 
-trit-requires : tie.Need-trit-at-requires
-trit-requires c κs = let x = c.before.before.before.before in (x.requires.0.laid.whole.passes, x.requires.0.laid.is, inside c)
+trit-requires : tie.Need-trit_at-t-requires
+trit-requires c κs = (c.requires.0.laid.whole.passes, c.requires.0.laid.is, inside c)
 
-at_zero : tie.Need-returns-3
+at_zero : tie.Need-returns-then-t-eq0
 at_zero c =
-    let s = c.before.before.before in
-    let x = s.before.before.before in
-    operand_end x.requires.0 (omega (arith, s.before.if1.false)) s.place.ensures c.before.trit_at.ensures c.if3.true
+    operand_end c.requires.0 (omega (arith, c.if-b-eq0.false)) c.place-zero.ensures c.trit_at-t.ensures c.if-t-eq0.true
 
-rank-requires : tie.Need-rank-both-requires
+rank-requires : tie.Need-rank_both-before-requires
 rank-requires c κs =
-    let e = c.before.before in
-    let x = e.before.before.before.before in
-    (x.requires.0.laid.whole.passes, x.requires.1, x.requires.0.laid.is, omega (arith, inside e))
+    (c.requires.0.laid.whole.passes, c.requires.1, c.requires.0.laid.is, omega (arith, inside c.before.before))
 
-other-node : tie.Need-returns-4
+other-node : tie.Need-returns-then-zeros-a
 other-node c =
-    let s = c.before.before.before.before.before in
-    let x = s.before.before.before in
-    operand_other x.requires.0 (omega (arith, s.before.if1.false)) s.place.ensures (ap (λ r. r.zeros) c.before.rank-both.ensures) c.if4.true
+    operand_other c.requires.0 (omega (arith, c.if-b-eq0.false)) c.place-zero.ensures (ap (λ r. r.zeros) c.rank_both-before.ensures) c.if-zeros-a.true
 
 edge-requires : tie.Need-edge-requires
 edge-requires c κs =
-    let t = c.before.before in
-    let e = t.before.before in
-    let x = e.before.before.before.before in
-    (x.requires.0.laid, record { inside = inside e; ranks_are = c.before.rank-both.ensures; trit_is = t.before.trit_at.ensures; no_zero = omega (arith, t.if3.false) })
+    (c.requires.0.laid, record { inside = inside c.before.before.before.before; ranks_are = c.rank_both-before.ensures; trit_is = c.trit_at-t.ensures; no_zero = omega (arith, c.if-t-eq0.false) })
 
-there : tie.Need-returns-5
+there : tie.Need-returns
 there c =
-    let q = c.before in
-    let t = q.before.before in
-    let e = t.before.before in
-    let s = e.before in
-    let x = s.before.before.before in
     c.edge.ensures
-    ∙ operand_there x.requires.0 (omega (arith, s.before.if1.false)) s.place.ensures
-    (sym (ap (λ r. r.zeros) q.before.rank-both.ensures) ∙ q.if4.false) (λ z. t.if3.false (t.before.trit_at.ensures ∙ z))
+    ∙ operand_there c.requires.0 (omega (arith, c.if-b-eq0.false)) c.place-zero.ensures
+    (sym (ap (λ r. r.zeros) c.rank_both-before.ensures) ∙ c.if-zeros-a.false) (λ z. c.if-t-eq0.false (c.trit_at-t.ensures ∙ z))
 
-pub operand-spec : {M : Type 1} → statement M
-operand-spec =
-    tie.close (tie.spec no-zeroth place-requires sub-trits past_end (λ c. omega (arith, inside c)) trit-requires at_zero rank-requires
-    other-node edge-requires there)
+pub operand_spec : {M : Type 1} → statement M
+operand_spec =
+    tie.close (tie.spec no-zeroth
+    place-requires
+    sub-trits
+    past_end
+    (λ c. omega (arith, inside c))
+    trit-requires
+    at_zero
+    rank-requires
+    other-node
+    edge-requires
+    there)

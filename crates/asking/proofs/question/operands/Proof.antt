@@ -10,41 +10,41 @@ use Rattle.asking.proofs.KindLaws.{right, nodes_few, selected_apart, zero_there,
 use Rattle.asking.proofs.question.operands.Statement.{statement}
 use Rattle.asking.proofs.question.operands.Tie as tie
 
-second-outside : tie.Need-returns
+second-outside : tie.Need-returns-then-b-ne0
 unfolding answer
 second-outside c =
-    let x = c.before.before in
-    let b = x.args.image.now in
-    sym (operands_33 (trits_of b) (shadows_of b) x.args.a x.requires.0.low x.requires.0.high x.args.b (omega (arith, c.if1.true)))
+    let b = c.args.image.now in
+    sym (operands_33 (trits_of b) (shadows_of b) c.args.a c.requires.0.low c.requires.0.high c.args.b (omega (arith, c.if-b-ne0.true)))
 
-place-requires : tie.Need-place-requires
+place-requires : tie.Need-place-first-requires
 place-requires c κs =
-    let x = c.before.before in
-    (x.requires.0.laid, x.requires.1, lit< tt, x.requires.0.low, omega (arith, zero_there x.requires.0))
+    (c.requires.0.laid, c.requires.1, lit< tt, c.requires.0.low, omega (arith, zero_there c.requires.0))
 
-add-place : tie.Need-overflow-add-place
-add-place c = let x = c.before.before.before in omega (arith, x.requires.0.high, nodes_few (right x.requires.0.laid))
+add-place : tie.Need-overflow_add-a
+add-place c = omega (arith, c.requires.0.high, nodes_few (right c.requires.0.laid))
 
-next-requires : tie.Need-place-requires-2
+next-requires : tie.Need-place-next-requires
 next-requires c κs =
-    let x = c.before.before.before in
-    (x.requires.0.laid, x.requires.1, lit< tt, omega arith, zero_there x.requires.0)
+    (c.requires.0.laid, c.requires.1, lit< tt, omega arith, zero_there c.requires.0)
 
-apart : (c : tie.After-place2) → c.before.place.result < c.place2.result
-apart c = selected_apart c.before.place.ensures c.place2.ensures
+apart : (c : tie.After-place-next) → c.place-first.result < c.place-next.result
+apart c = selected_apart c.place-first.ensures c.place-next.ensures
 
 value-requires : tie.Need-value-requires
 value-requires c κs =
-    let x = c.before.before.before.before in
-    omega (arith, c.place2.ensures.inside, (right x.requires.0.laid).length_high)
+    omega (arith, c.place-next.ensures.inside, (right c.requires.0.laid).length_high)
 
-returns : tie.Need-returns-2
+returns : tie.Need-returns
 returns c =
-    let s = c.before in
-    let x = s.before.before.before.before in
-    c.value.ensures ∙ operands_value x.requires.0 s.before.before.if1.false s.before.place.ensures s.place2.ensures
+    c.value.ensures ∙ operands_value c.requires.0 c.if-b-ne0.false c.place-first.ensures c.place-next.ensures
 
-pub operands-spec : {M : Type 1} → statement M
-operands-spec =
-    tie.close (tie.spec second-outside place-requires add-place next-requires (λ c. omega (arith, apart c)) (λ c. omega (arith, apart c))
-    value-requires returns)
+pub operands_spec : {M : Type 1} → statement M
+operands_spec =
+    tie.close (tie.spec second-outside
+    place-requires
+    add-place
+    next-requires
+    (λ c. omega (arith, apart c))
+    (λ c. omega (arith, apart c))
+    value-requires
+    returns)

@@ -9,18 +9,19 @@ use Rattle.asking.proofs.question.place.Statement.{statement}
 use Rattle.asking.proofs.question.place.Tie as tie
 
 select-requires : tie.Need-select-requires
-select-requires c κs = let x = c.before in (x.requires.0.whole.passes, x.requires.1, x.requires.0.is, x.requires.2)
+select-requires c κs = (c.requires.0.whole.passes, c.requires.1, c.requires.0.is, c.requires.2)
 
-nothing : tie.Need-returns
+nothing : tie.Need-returns-in_default
 nothing c =
-    let s = c.before.before in
-    let x = s.before.before in
-    absurd (never_nothing x.args.t (trits_of x.args.image.now) x.args.j x.requires.3 x.requires.4 (ap found_place (sym c.enum_told.given.1) ∙ s.select.ensures))
+    absurd (never_nothing c.args.t (trits_of c.args.image.now) c.args.j c.requires.3 c.requires.4 (ap found_place (sym c.in_default.is) ∙ c.select.ensures))
 
-found : tie.Need-returns-2
+found : tie.Need-returns
 found c =
-    let s = c.before.before.before in
-    select_some _ _ _ _ (sym (ap found_place (sym c.before.p.given.1) ∙ s.select.ensures))
+    select_some _ _ _ _ (sym (ap found_place (sym c.in-At.is) ∙ c.select.ensures))
 
-pub place-spec : {M : Type 1} → statement M
-place-spec = tie.close (tie.spec select-requires (λ c. search rules) (λ c. search rules) nothing found)
+pub place_spec : {M : Type 1} → statement M
+place_spec = tie.close (tie.spec select-requires
+    (λ c. search rules)
+    (λ c. search rules)
+    nothing
+    found)

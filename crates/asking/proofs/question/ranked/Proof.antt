@@ -11,33 +11,33 @@ use Rattle.asking.proofs.KindLaws.{right}
 use Rattle.asking.proofs.question.ranked.Statement.{statement}
 use Rattle.asking.proofs.question.ranked.Tie as tie
 
-first-outside : tie.Need-returns
+first-outside : tie.Need-returns-then-a-gt2
 unfolding answer
-first-outside c = let a = c.before.before.args in sym (rank_32 (trits_of a.image.now) [] a.a a.b (omega (arith, c.if1.true)))
+first-outside c = let a = c.args in sym (rank_32 (trits_of a.image.now) [] a.a a.b (omega (arith, c.if-a-gt2.true)))
 
-second-outside : tie.Need-returns-2
+second-outside : tie.Need-returns-then-trits-b
 unfolding answer
 second-outside c =
-    let x = c.before.before.before in
-    sym (rank_33 (trits_of x.args.image.now) [] x.args.a x.args.b (omega (arith, c.before.if1.false)) (omega (arith, c.if2.true, trits_is x.requires.0)))
+    sym (rank_33 (trits_of c.args.image.now) [] c.args.a c.args.b (omega (arith, c.if-a-gt2.false)) (omega (arith, c.if-trits-b.true, trits_is c.requires.0)))
 
 rank-requires : tie.Need-rank-requires
 rank-requires c κs =
-    let x = c.before.before.before in
-    (x.requires.0.whole.passes, x.requires.1, x.requires.0.is, omega (arith, c.before.if1.false), omega (arith, c.if2.false, trits_is x.requires.0))
+    (c.requires.0.whole.passes, c.requires.1, c.requires.0.is, omega (arith, c.if-a-gt2.false), omega (arith, c.if-trits-b.false, trits_is c.requires.0))
 
 value-requires : tie.Need-value-requires
 value-requires c κs =
-    let x = c.before.before.before.before in
-    let trits = trits_of x.args.image.now in
-    omega (arith, c.rank.ensures, rank_count x.args.a trits x.args.b, count_le x.args.a trits, (right x.requires.0).length_high)
+    let trits = trits_of c.args.image.now in
+    omega (arith, c.rank.ensures, rank_count c.args.a trits c.args.b, count_le c.args.a trits, (right c.requires.0).length_high)
 
-returns : tie.Need-returns-3
+returns : tie.Need-returns
 unfolding answer
 returns c =
-    let x = c.before.before.before.before.before in
-    c.value.ensures ∙ ap plain c.before.rank.ensures
-    ∙ sym (rank_reply (trits_of x.args.image.now) [] x.args.a x.args.b (omega (arith, c.before.before.before.if1.false)) (omega (arith, c.before.before.if2.false, trits_is x.requires.0)))
+    c.value.ensures ∙ ap plain c.rank.ensures
+    ∙ sym (rank_reply (trits_of c.args.image.now) [] c.args.a c.args.b (omega (arith, c.if-a-gt2.false)) (omega (arith, c.if-trits-b.false, trits_is c.requires.0)))
 
-pub ranked-spec : {M : Type 1} → statement M
-ranked-spec = tie.close (tie.spec first-outside second-outside rank-requires value-requires returns)
+pub ranked_spec : {M : Type 1} → statement M
+ranked_spec = tie.close (tie.spec first-outside
+    second-outside
+    rank-requires
+    value-requires
+    returns)

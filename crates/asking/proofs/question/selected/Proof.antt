@@ -14,30 +14,33 @@ use Rattle.asking.proofs.KindLaws.{right, select_nothing, select_value}
 use Rattle.asking.proofs.question.selected.Statement.{statement}
 use Rattle.asking.proofs.question.selected.Tie as tie
 
-first-outside : tie.Need-returns
+first-outside : tie.Need-returns-then-a-gt2
 unfolding answer
-first-outside c = let a = c.before.before.args in sym (select_32 (trits_of a.image.now) [] a.a a.b (omega (arith, c.if1.true)))
+first-outside c = let a = c.args in sym (select_32 (trits_of a.image.now) [] a.a a.b (omega (arith, c.if-a-gt2.true)))
 
 select-requires : tie.Need-select-requires
-select-requires c κs = let x = c.before.before in (x.requires.0.whole.passes, x.requires.1, x.requires.0.is, omega (arith, c.if1.false))
+select-requires c κs = (c.requires.0.whole.passes, c.requires.1, c.requires.0.is, omega (arith, c.if-a-gt2.false))
 
-second-outside : tie.Need-returns-2
+second-outside : tie.Need-returns-in_default
 second-outside c =
-    let s = c.before.before in
-    select_nothing _ _ _ (omega (arith, s.before.if1.false)) (ap found_place (sym c.enum_told.given.1) ∙ s.select.ensures)
+    select_nothing _ _ _ (omega (arith, c.if-a-gt2.false)) (ap found_place (sym c.in_default.is) ∙ c.select.ensures)
 
-found : (c : tie.After-known-told) → let x = c.before.before.before.before.before.before in
-    some c.before.p.given.0.0 ≡ select x.args.a (trits_of x.args.image.now) x.args.b
-found c = ap found_place (sym c.before.p.given.1) ∙ c.before.before.before.select.ensures
+found : (c : tie.In-At) → some c.in-At.p ≡ select c.args.a (trits_of c.args.image.now) c.args.b
+found c = ap found_place (sym c.in-At.is) ∙ c.select.ensures
 
 value-requires : tie.Need-value-requires
 value-requires c κs =
-    let x = c.before.before.before.before.before.before in
-    omega (arith, (select_some x.args.a (trits_of x.args.image.now) x.args.b _ (sym (found c))).inside, (right x.requires.0).length_high)
+    omega (arith, (select_some c.args.a (trits_of c.args.image.now) c.args.b _ (sym (found c))).inside, (right c.requires.0).length_high)
 
-returns : tie.Need-returns-3
-returns c = c.value.ensures ∙ select_value _ _ _ (omega (arith, c.before.before.before.before.before.if1.false)) (found c.before)
+returns : tie.Need-returns
+returns c = c.value.ensures ∙ select_value _ _ _ (omega (arith, c.if-a-gt2.false)) (found c.before)
 
-pub selected-spec : {M : Type 1} → statement M
-selected-spec =
-    tie.close (tie.spec first-outside select-requires (λ c. search rules) (λ c. search rules) second-outside value-requires returns)
+pub selected_spec : {M : Type 1} → statement M
+selected_spec =
+    tie.close (tie.spec first-outside
+    select-requires
+    (λ c. search rules)
+    (λ c. search rules)
+    second-outside
+    value-requires
+    returns)

@@ -11,54 +11,51 @@ use Rattle.asking.proofs.KindLaws.{right, shadows_few, zeros_few, Two, place_two
 use Rattle.asking.proofs.question.shadow_user.Statement.{statement}
 use Rattle.asking.proofs.question.shadow_user.Tie as tie
 
-group-requires : tie.Need-find-group-requires
-group-requires c κs = let x = c.before in (x.requires.0.laid, omega (arith, x.requires.0))
+group-requires : tie.Need-find_group-group-requires
+group-requires c κs = (c.requires.0.laid, omega (arith, c.requires.0))
 
-counted : (c : tie.After-find-group) → let x = c.before.before in
-    Counted (trits_of x.args.image.now) (shadows_of x.args.image.now) x.args.a c.find-group.result
-counted c = let x = c.before.before in group_counted (right x.requires.0.laid) x.args.a x.requires.0.low c.find-group.ensures
+counted : (c : tie.After-find_group-group) → Counted (trits_of c.args.image.now) (shadows_of c.args.image.now) c.args.a c.find_group-group.result
+counted c = group_counted (right c.requires.0.laid) c.args.a c.requires.0.low c.find_group-group.ensures
 
-past : tie.Need-returns
+past : tie.Need-returns-then-next-first
 past c =
-    let x = c.before.before.before in
-    use_past x.requires.0 (omega (arith, c.if1.true, counted c.before))
+    use_past c.requires.0 (omega (arith, c.if-next-first.true, counted c.before))
 
-few : (c : tie.Else1) → let x = c.before.before.before in c.before.find-group.result.first + (x.args.j - 1) < length (shadows_of x.args.image.now)
-few c = omega (arith, c.if1.false, counted c.before, c.before.before.before.requires.2)
+few : (c : tie.Else-next-first) → c.find_group-group.result.first + (c.args.j - 1) < length (shadows_of c.args.image.now)
+few c = omega (arith, c.if-next-first.false, counted c.before, c.requires.2)
 
-add-place : tie.Need-overflow-add-at
-add-place c = omega (arith, few c, shadows_few (right c.before.before.before.requires.0.laid))
+add-place : tie.Need-overflow_add-at
+add-place c = omega (arith, few c, shadows_few (right c.requires.0.laid))
 
-place-requires : tie.Need-shadow-place-requires
-place-requires c κs = (c.before.before.before.requires.0.laid, few c)
+place-requires : tie.Need-shadow_place-p-requires
+place-requires c κs = (c.requires.0.laid, few c)
 
-two : (c : tie.After-shadow-place) → let x = c.before.before.before.before in Two (right x.requires.0.laid) c.shadow-place.result
-two c = let x = c.before.before.before.before in place_two (right x.requires.0.laid) (few c.before) c.shadow-place.ensures
+two : (c : tie.After-shadow_place-p) → Two (right c.requires.0.laid) c.shadow_place-p.result
+two c = place_two (right c.requires.0.laid) (few c.before) c.shadow_place-p.ensures
 
-rank-requires : tie.Need-rank-requires
+rank-requires : tie.Need-rank-user-requires
 rank-requires c κs =
-    let x = c.before.before.before.before in
-    (x.requires.0.laid.whole.passes, x.requires.1, x.requires.0.laid.is, lit< tt, omega (arith, (two c).0))
+    (c.requires.0.laid.whole.passes, c.requires.1, c.requires.0.laid.is, lit< tt, omega (arith, (two c).0))
 
 listed-requires : tie.Need-listed-requires
 listed-requires c κs =
-    let x = c.before.before.before.before.before in
-    omega (arith, c.rank.ensures, zeros_few (right x.requires.0.laid) c.before.shadow-place.result)
+    omega (arith, c.rank-user.ensures, zeros_few (right c.requires.0.laid) c.shadow_place-p.result)
 
-there : tie.Need-returns-2
+there : tie.Need-returns
 there c =
-    let u = c.before in
-    let s = u.before in
-    let e = s.before in
-    let x = e.before.before.before in
     c.listed.ensures
-    ∙ edge_user (right x.requires.0.laid) s.shadow-place.result (two s).1 u.rank.ensures
-    ∙ ap user_or33 (sym (use_there x.requires.0 x.requires.2 (omega (arith, e.if1.false, counted e.before)) (counted e.before).first_is s.shadow-place.ensures))
+    ∙ edge_user (right c.requires.0.laid) c.shadow_place-p.result (two c.before.before).1 c.rank-user.ensures
+    ∙ ap user_or33 (sym (use_there c.requires.0 c.requires.2 (omega (arith, c.if-next-first.false, counted c.before.before.before.before)) (counted c.before.before.before.before).first_is c.shadow_place-p.ensures))
 
-pub shadow-user-spec : {M : Type 1} → statement M
-shadow-user-spec =
-    tie.close (tie.spec
-    (λ c. omega (arith, c.before.requires.0.low))
-    group-requires (λ c. omega (arith, counted c)) past
-    (λ c. omega (arith, c.before.before.before.requires.2))
-    add-place place-requires rank-requires listed-requires there)
+pub shadow_user_spec : {M : Type 1} → statement M
+shadow_user_spec =
+    tie.close (tie.spec (λ c. omega (arith, c.requires.0.low))
+    group-requires
+    (λ c. omega (arith, counted c))
+    past
+    (λ c. omega (arith, c.requires.2))
+    add-place
+    place-requires
+    rank-requires
+    listed-requires
+    there)

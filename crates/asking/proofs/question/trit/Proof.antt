@@ -10,32 +10,32 @@ use Rattle.asking.proofs.KindLaws.{right}
 use Rattle.asking.proofs.question.trit.Statement.{statement}
 use Rattle.asking.proofs.question.trit.Tie as tie
 
-first-outside : tie.Need-returns
+first-outside : tie.Need-returns-then-trits-a
 unfolding answer
-first-outside c = let x = c.before.before in sym (trit_32 (trits_of x.args.image.now) [] x.args.a x.args.b (omega (arith, c.if1.true, trits_is x.requires)))
+first-outside c = sym (trit_32 (trits_of c.args.image.now) [] c.args.a c.args.b (omega (arith, c.if-trits-a.true, trits_is c.requires)))
 
-second-outside : tie.Need-returns-2
+second-outside : tie.Need-returns-then-b-ne0
 unfolding answer
 second-outside c =
-    let x = c.before.before.before in
-    sym (trit_33 (trits_of x.args.image.now) [] x.args.a x.args.b (omega (arith, c.before.if1.false, trits_is x.requires)) (omega (arith, c.if2.true)))
+    sym (trit_33 (trits_of c.args.image.now) [] c.args.a c.args.b (omega (arith, c.if-trits-a.false, trits_is c.requires)) (omega (arith, c.if-b-ne0.true)))
 
-trit-requires : tie.Need-trit-at-requires
+trit-requires : tie.Need-trit_at-requires
 trit-requires c κs =
-    let x = c.before.before.before in
-    (x.requires.whole.passes, x.requires.is, omega (arith, c.before.if1.false, trits_is x.requires))
+    (c.requires.whole.passes, c.requires.is, omega (arith, c.if-trits-a.false, trits_is c.requires))
 
 value-requires : tie.Need-value-requires
 value-requires c κs =
-    let x = c.before.before.before.before in
-    omega (arith, c.trit_at.ensures, (right x.requires).threes x.args.a (omega (arith, c.before.before.if1.false, trits_is x.requires)))
+    omega (arith, c.trit_at.ensures, (right c.requires).threes c.args.a (omega (arith, c.if-trits-a.false, trits_is c.requires)))
 
-returns : tie.Need-returns-3
+returns : tie.Need-returns
 unfolding answer
 returns c =
-    let x = c.before.before.before.before.before in
-    c.value.ensures ∙ ap plain c.before.trit_at.ensures
-    ∙ rw c.before.before.if2.false (sym (trit_reply (trits_of x.args.image.now) [] x.args.a (omega (arith, c.before.before.before.if1.false, trits_is x.requires))))
+    c.value.ensures ∙ ap plain c.trit_at.ensures
+    ∙ rw c.if-b-ne0.false (sym (trit_reply (trits_of c.args.image.now) [] c.args.a (omega (arith, c.if-trits-a.false, trits_is c.requires))))
 
-pub trit-spec : {M : Type 1} → statement M
-trit-spec = tie.close (tie.spec first-outside second-outside trit-requires value-requires returns)
+pub trit_spec : {M : Type 1} → statement M
+trit_spec = tie.close (tie.spec first-outside
+    second-outside
+    trit-requires
+    value-requires
+    returns)

@@ -9,44 +9,42 @@ use Rattle.asking.proofs.KindLaws.{right, roots_is, shadows_few, uses_root, uses
 use Rattle.asking.proofs.question.uses.Statement.{statement}
 use Rattle.asking.proofs.question.uses.Tie as tie
 
-second-outside : tie.Need-returns
+second-outside : tie.Need-returns-then-b-ne0
 unfolding answer
 second-outside c =
-    let x = c.before.before in
-    let b = x.args.image.now in
-    sym (uses_33 (trits_of b) (shadows_of b) x.args.a x.requires.low x.requires.high x.args.b (omega (arith, c.if1.true)))
+    let b = c.args.image.now in
+    sym (uses_33 (trits_of b) (shadows_of b) c.args.a c.requires.low c.requires.high c.args.b (omega (arith, c.if-b-ne0.true)))
 
-group-requires : tie.Need-find-group-requires
-group-requires c κs = let x = c.before.before in (x.requires.laid, omega (arith, x.requires))
+group-requires : tie.Need-find_group-group-requires
+group-requires c κs = (c.requires.laid, omega (arith, c.requires))
 
-counted : (c : tie.After-find-group) → let x = c.before.before.before in
-    Counted (trits_of x.args.image.now) (shadows_of x.args.image.now) x.args.a c.find-group.result
-counted c = let x = c.before.before.before in group_counted (right x.requires.laid) x.args.a x.requires.low c.find-group.ensures
+counted : (c : tie.After-find_group-group) → Counted (trits_of c.args.image.now) (shadows_of c.args.image.now) c.args.a c.find_group-group.result
+counted c = group_counted (right c.requires.laid) c.args.a c.requires.low c.find_group-group.ensures
 
 real-requires : tie.Need-value-requires
-real-requires c κs = omega (arith, counted c.before, shadows_few (right c.before.before.before.before.requires.laid))
+real-requires c κs = omega (arith, counted c.before, shadows_few (right c.requires.laid))
 
-real : tie.Need-returns-2
+real : tie.Need-returns-then-roots-a
 real c =
-    let g = c.before.before in
-    let x = g.before.before.before in
     c.value.ensures
-    ∙ uses_real x.requires g.before.if1.false (omega (arith, c.before.if2.true, roots_is x.requires.laid)) (omega (arith, counted g))
+    ∙ uses_real c.requires c.if-b-ne0.false (omega (arith, c.if-roots-a.true, roots_is c.requires.laid)) (omega (arith, counted c.before.before))
 
 root-requires : tie.Need-value-requires-2
-root-requires c κs = omega (arith, counted c.before, shadows_few (right c.before.before.before.before.requires.laid))
+root-requires c κs = omega (arith, counted c.before, shadows_few (right c.requires.laid))
 
-root : tie.Need-returns-3
+root : tie.Need-returns
 root c =
-    let g = c.before.before in
-    let x = g.before.before.before in
-    c.value2.ensures
-    ∙ uses_root x.requires g.before.if1.false (omega (arith, c.before.if2.false, roots_is x.requires.laid)) (omega (arith, counted g))
+    c.value-2.ensures
+    ∙ uses_root c.requires c.if-b-ne0.false (omega (arith, c.if-roots-a.false, roots_is c.requires.laid)) (omega (arith, counted c.before.before))
 
-pub uses-spec : {M : Type 1} → statement M
-uses-spec =
+pub uses_spec : {M : Type 1} → statement M
+uses_spec =
     tie.close (tie.spec second-outside
-    (λ c. omega (arith, c.before.before.requires.low))
-    group-requires (λ c. omega (arith, counted c))
-    (λ c. omega (arith, counted c.before, shadows_few (right c.before.before.before.before.requires.laid)))
-    real-requires real root-requires root)
+    (λ c. omega (arith, c.requires.low))
+    group-requires
+    (λ c. omega (arith, counted c))
+    (λ c. omega (arith, counted c.before, shadows_few (right c.requires.laid)))
+    real-requires
+    real
+    root-requires
+    root)

@@ -9,11 +9,11 @@ use Rattle.listing.proofs.LineLaws.{counts_small, edges_are, begin_counts}
 use Rattle.listing.proofs.lines.put_counts.Statement.{statement}
 use Rattle.listing.proofs.lines.put_counts.Tie as tie
 
-laid : (c : tie.After-shared-slice-known) → Laid c.before.before.args.image.now c.before.before.args.lay
-laid c = let p = c.before.before.requires in accepted c.shared-slice-known.given p.0 p.1
+laid : (c : tie.After-shared_slice_known-1) → Laid c.args.image.now c.args.lay
+laid c = let p = c.requires in accepted c.shared_slice_known-1.given p.0 p.1
 
-pub put-counts-spec : {M : Type 1} → statement M
-put-counts-spec =
+pub put_counts_spec : {M : Type 1} → statement M
+put_counts_spec =
     tie.close (tie.spec
     (λ c. omega (arith, counts_small (laid c.before)))
     (λ c. omega (arith, edges_are (laid c.before.before)))

@@ -10,15 +10,13 @@ use Rattle.listing.proofs.lines.put_neighbour.Statement.{statement}
 use Rattle.listing.proofs.lines.put_neighbour.Tie as tie
 
 -- the star is left, where there is one
-node : (c : tie.After-put-field) → let x = c.before.before.before.before.before.args in let r = answer_numbers x.found in
-    Left x.text.now x.at (neighbour_text r) c.put-field.new.0 c.put-field.result (star r.sort ∷ [])
+node : (c : tie.After-put_field-end) → let x = c.args in let r = answer_numbers x.found in
+    Left x.text.now x.at (neighbour_text r) c.put_field-end.new.text c.put_field-end.result (star r.sort ∷ [])
 node c =
-    let v = c.before.before.before in
-    let x = v.before.before in
-    next (begin_neighbour (answer_numbers x.args.found) v.value.ensures x.requires) c.put-field.ensures
+    next (begin_neighbour (answer_numbers c.args.found) c.value-node.ensures c.requires) c.put_field-end.ensures
 
-pub put-neighbour-spec : {M : Type 1} → statement M
-put-neighbour-spec =
+pub put_neighbour_spec : {M : Type 1} → statement M
+put_neighbour_spec =
     tie.close (tie.spec (λ c κs. search rules) (λ c. search rules) (λ c. search rules)
     (λ c κs.
     let v = c.before.before in

@@ -10,18 +10,13 @@ use Rattle.listing.proofs.lines.put_node.Statement.{statement}
 use Rattle.listing.proofs.lines.put_node.Tie as tie
 
 -- the end of the line is left
-listed : (c : tie.After-put-neighbours2) → let o = c.before.before.before.before.before in
-    let d = o.before.before.before.before.before in
-    let x = d.before.before.before.before.args in
-    Left x.text.now x.at (node_line (trits_of x.image.now) (shadows_of x.image.now) x.i) c.put-neighbours2.new.0 c.put-neighbours2.result (newline ∷ [])
+listed : (c : tie.After-put_neighbours-users) → let x = c.args in
+    Left x.text.now x.at (node_line (trits_of x.image.now) (shadows_of x.image.now) x.i) c.put_neighbours-users.new.text c.put_neighbours-users.result (newline ∷ [])
 listed c =
-    let o = c.before.before.before.before.before in
-    let d = o.before.before.before.before.before in
-    let x = d.before.before.before.before in
-    next (next (next (begin_node x.args.image.now x.args.i x.requires.1 x.requires.2 x.requires.3) d.put-decimal.ensures) o.put-neighbours.ensures) c.put-neighbours2.ensures
+    next (next (next (begin_node c.args.image.now c.args.i c.requires.1 c.requires.2 c.requires.3) c.put_decimal-named.ensures) c.put_neighbours-operands.ensures) c.put_neighbours-users.ensures
 
-pub put-node-spec : {M : Type 1} → statement M
-put-node-spec =
+pub put_node_spec : {M : Type 1} → statement M
+put_node_spec =
     tie.close (tie.spec
     (λ c κs. let x = c.before.before.before in fits (begin_node x.args.image.now x.args.i x.requires.1 x.requires.2 x.requires.3))
     (λ c. search rules)

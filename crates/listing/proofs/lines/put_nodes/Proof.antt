@@ -13,22 +13,23 @@ use Rattle.listing.proofs.LineLaws.{nodes_are, begin_nodes, counts_small}
 use Rattle.listing.proofs.lines.put_nodes.Statement.{statement}
 use Rattle.listing.proofs.lines.put_nodes.Tie as tie
 
-abbrev invariant-loop : tie.invariant-loop
+abbrev invariant-loop : tie.invariant-loop-i
 invariant-loop text₀ at image table lay count end₀ i₀ text end i =
     let line = node_line (trits_of image) (shadows_of image) in
     Left text₀ at (join (map line (one_to (node_count (trits_of image))))) text end (parts_from line count i)
 
-abbrev decreases-loop : tie.decreases-loop
+abbrev decreases-loop : tie.decreases-loop-i
 decreases-loop text₀ at image table lay count end₀ i₀ text end i = count - i
 
-small : (c : tie.After-shared-slice-known invariant-loop decreases-loop) → c.before.before.args.lay.nodes ≤ 125536
-small c = let p = c.before.before.requires.0 in omega (arith, counts_small (accepted c.shared-slice-known.given p.proper p.laid))
+small : (c : tie.After-shared_slice_known-1 invariant-loop decreases-loop) → c.args.lay.nodes ≤ 125536
+small c = let p = c.requires.0 in omega (arith, counts_small (accepted c.shared_slice_known-1.given p.proper p.laid))
 
-pub put-nodes-spec : {M : Type 1} → statement M
-put-nodes-spec =
-    tie.close (tie.spec invariant-loop decreases-loop
+pub put_nodes_spec : {M : Type 1} → statement M
+put_nodes_spec =
+    tie.close (tie.spec invariant-loop
+    decreases-loop
     (λ c. omega (arith, small c.before))
-    (λ c. let x = c.before.before.before in begin_nodes _ x.requires.0.laid x.requires.1)
+    (λ c. begin_nodes _ c.requires.0.laid c.requires.1)
     (λ c. omega (arith, small c.before.before.before))
     (λ c κs.
     let l = c.before.before in
@@ -39,5 +40,5 @@ put-nodes-spec =
     let n = c.before.before in
     let t = n.before.before in
     next (part_next _ _ _ t.before.loop.invariant t.loop-test.true refl) n.put-node.ensures)
-    (λ c. left_length c.before.loop.invariant)
-    (λ c. parts_done _ _ _ c.before.loop.invariant c.loop-test.false))
+    (λ c. left_length c.loop-i.invariant)
+    (λ c. parts_done _ _ _ c.loop-i.invariant c.loop-i-test.false))

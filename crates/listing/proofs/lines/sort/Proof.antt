@@ -6,9 +6,12 @@ use Rattle.format.specs.declared.Answer.{Answer}
 use Rattle.listing.proofs.lines.sort.Statement.{statement}
 use Rattle.listing.proofs.lines.sort.Tie as tie
 
-pub sort-spec : {M : Type 1} → statement M
-sort-spec =
-    tie.close (tie.spec (λ c. search rules) (λ c. search rules) (λ c κs. search rules) (λ c. search rules)
-    (λ c. sym (ap (λ (a : Answer). (answer_numbers a).sort) c.before.found.given.1))
-    (λ c. c.sort-number.ensures ∙ sym (ap (λ (a : Answer). (answer_numbers a).sort) c.before.before.found2.given.1))
-    (λ c. sym (ap (λ (a : Answer). (answer_numbers a).sort) c.before.found3.given.1)))
+pub sort_spec : {M : Type 1} → statement M
+sort_spec =
+    tie.close (tie.spec (λ c. search rules)
+    (λ c. search rules)
+    (λ c κs. search rules)
+    (λ c. search rules)
+    (λ c. sym (ap (λ (a : Answer). (answer_numbers a).sort) c.in-Value.is))
+    (λ c. c.sort_number.ensures ∙ sym (ap (λ (a : Answer). (answer_numbers a).sort) c.in-Listed.is))
+    (λ c. sym (ap (λ (a : Answer). (answer_numbers a).sort) c.in-Refused.is)))

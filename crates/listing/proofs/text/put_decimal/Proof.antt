@@ -4,8 +4,9 @@ use Rattle.format.specs.Listing.{decimal}
 use Rattle.listing.proofs.text.put_decimal.Statement.{statement}
 use Rattle.listing.proofs.text.put_decimal.Tie as tie
 
-pub put-decimal-spec : {M : Type 1} → statement M
+pub put_decimal_spec : {M : Type 1} → statement M
 unfolding decimal
-put-decimal-spec =
-    tie.close (tie.spec (λ c κs. c.before.before.requires) (λ c. search rules)
-    (λ c. c.before.before.put-digits.ensures))
+put_decimal_spec =
+    tie.close (tie.spec (λ c κs. c.requires)
+    (λ c. search rules)
+    (λ c. c.put_digits.ensures))

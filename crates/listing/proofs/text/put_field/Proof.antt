@@ -5,10 +5,9 @@ use Rattle.listing.proofs.TextLaws.{begin_two, fits, next, finish}
 use Rattle.listing.proofs.text.put_field.Statement.{statement}
 use Rattle.listing.proofs.text.put_field.Tie as tie
 
-pub put-field-spec : {M : Type 1} → statement M
-put-field-spec =
-    tie.close (tie.spec
-    (λ c κs. let x = c.before.before.before in fits (begin_two x.args.word.now (decimal x.args.x) x.requires))
+pub put_field_spec : {M : Type 1} → statement M
+put_field_spec =
+    tie.close (tie.spec (λ c κs. fits (begin_two c.args.word.now (decimal c.args.x) c.requires))
     (λ c κs.
     let w = c.before.before.before in
     let x = w.before.before.before.before in

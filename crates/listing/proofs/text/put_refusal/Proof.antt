@@ -4,8 +4,8 @@ use Rattle.listing.proofs.TextLaws.{fits, next, finish, begin_refusal}
 use Rattle.listing.proofs.text.put_refusal.Statement.{statement}
 use Rattle.listing.proofs.text.put_refusal.Tie as tie
 
-pub put-refusal-spec : {M : Type 1} → statement M
-put-refusal-spec =
+pub put_refusal_spec : {M : Type 1} → statement M
+put_refusal_spec =
     tie.close (tie.spec (λ c κs. search rules) (λ c. search rules) (λ c. search rules)
     (λ c κs. let n = c.before.before in fits (begin_refusal n.number.ensures n.before.before.requires))
     (λ c. search rules)
