@@ -41,8 +41,6 @@ listing_spec =
     (λ c κs. whole c.before)
     (λ c. omega (arith, size c.before.before, length-take c.read_words-count.result c.read_words-count.new.words))
     (λ c. size c.before.before.before)
-    (λ c κs.
-    let r = c.before.before.before in
-    let w = whole r.before.before in
-    (omega (arith, ap length (table r), words_many r.before.before.before.before.before.args.input.now w.0, w.1), text_room _ (is_text r) (omega arith)))
+    (λ c κs. let r = c.before.before.before in let w = whole c.before.before.before.before.before in
+    (omega (arith, ap length (table r), words_many c.args.input.now w.0, w.1), text_room _ (is_text r) (omega arith)))
     (λ c. text_outcome _ (is_text c.before.before.before.before) c.put_table.ensures))

@@ -30,18 +30,9 @@ put_listing_spec =
     tie.close (tie.spec (λ c κs. search rules)
     (λ c. search rules)
     (λ c. search rules)
-    (λ c.
-    let e = c.before.before in
-    absurd (omega (arith, refusal_some c.enum_told.given.0.0, subst (Examines _ _) c.enum_told.given.1 e.examine.ensures, e.before.before.before.requires.0)))
-    (λ c κs.
-    let l = c.before.before in
-    let x = l.before.before.before.before.before in
-    (x.requires.0, laid l, fits (begin_listing (trits_of x.args.image.now) (shadows_of x.args.image.now) x.requires.1)))
+    (λ c. absurd (omega (arith, refusal_some c.in_default.field-0, subst (Examines _ _) c.in_default.is c.examine.ensures, c.requires.0)))
+    (λ c κs. (c.requires.0, laid c.before, fits (begin_listing (trits_of c.args.image.now) (shadows_of c.args.image.now) c.requires.1)))
     (λ c κs. search rules)
-    (λ c κs.
-    let t = c.before.before in
-    let n = t.before.before.before in
-    let l = n.before.before.before in
-    (record { proper = l.before.before.before.before.before.requires.0; trytes = t.tryte-table.ensures; laid = laid l }, fits (counted n)))
+    (λ c κs. (record { proper = c.requires.0; trytes = c.tryte_table-table.ensures; laid = laid c.before.before.before.before.before.before.before }, fits (counted c.before.before.before.before.before)))
     (λ c. search rules)
     (λ c. finish (next (counted c.before.before.before.before.before.before.before.before) c.put_nodes.ensures)))

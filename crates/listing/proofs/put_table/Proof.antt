@@ -15,23 +15,19 @@ use Rattle.listing.proofs.TableLaws.{refused_text, Packs, packs}
 use Rattle.listing.proofs.put_table.Statement.{statement}
 use Rattle.listing.proofs.put_table.Tie as tie
 
--- the call
-abbrev start : tie.After-pack → tie.Start
-start p = p.before.before.before.before.before.before
-
 refused : (c : tie.In-Refused) → refusal (refusal_number c.in-Refused.f) ≡ table_text (read_table c.args.table.now)
 refused c =
-    let o = c.pack.new.1 in
+    let o = c.pack.new in
     refused_text c.args.table.now c.requires.0 _ _ _
     (omega (arith, length-replicate {A = ℕ} 4000 0)) (omega (arith, length-replicate {A = ℕ} 12000 0)) (omega (arith, length-replicate {A = ℕ} 32768 0))
-    c.in-Refused.f (c.pack.ensures ∙ ap (λ (r : Packed). pack_leaves r o.0 o.1.0 o.1.1.0) c.in-Refused.is)
+    c.in-Refused.f (c.pack.ensures ∙ ap (λ (r : Packed). pack_leaves r o.order o.work o.image) c.in-Refused.is)
 
 packed : (c : tie.In-Image) → let bytes = c.pack.new.image in
     (c.in-Image.size ≤ length bytes) × Packs c.args.table.now (take c.in-Image.size bytes)
 packed c =
-    let o = c.pack.new.1 in
+    let o = c.pack.new in
     packs c.args.table.now _ _ _
-    (c.pack.ensures ∙ ap (λ (r : Packed). pack_leaves r o.0 o.1.0 o.1.1.0) c.in-Image.is)
+    (c.pack.ensures ∙ ap (λ (r : Packed). pack_leaves r o.order o.work o.image) c.in-Image.is)
 
 pub put_table_spec : {M : Type 1} → statement M
 put_table_spec =
@@ -40,23 +36,13 @@ put_table_spec =
     (λ c. search rules)
     (λ c κs. search rules)
     (λ c. search rules)
-    (λ c κs.
-    let f = c.before.before in
-    let p = f.before.before.before.before.before in
-    subst (Room _ 0) (sym (refused f)) (start p).requires.1)
+    (λ c κs. subst (Room _ 0) (sym (refused c.before)) c.requires.1)
     (λ c. search rules)
     (λ c. (packed c.before).0)
     (λ c. simp length-take (omega (arith, (packed c.before.before).0)))
-    (λ c κs.
-    let s = c.before.before.before in
-    let p = s.before.before.before.before.before in
-    let q = (packed s).1 in
-    (q.passes, subst (Room _ 0) (sym q.text) (start p).requires.1))
+    (λ c κs. let q = (packed c.before.before).1 in
+    (q.passes, subst (Room _ 0) (sym q.text) c.requires.1))
     (λ c. search rules)
-    (λ c.
-    let w = c.before.before in
-    wrote_same (refused w.before.before.before) w.put-refusal.ensures)
+    (λ c. wrote_same (refused c.before.before.before.before) c.put_refusal.ensures)
     (λ c. search rules)
-    (λ c.
-    let w = c.before.before in
-    wrote_same (packed w.before.before.before.before).1.text w.put-listing.ensures))
+    (λ c. wrote_same (packed c.before.before.before.before.before).1.text c.put_listing.ensures))

@@ -26,11 +26,6 @@ read_words_spec =
     (λ c. omega (arith, over_length c.loop-i.invariant, c.requires.1))
     (λ c. omega arith)
     (λ c. omega arith)
-    (λ c.
-    let t = c.before in
-    let x = t.before.before.before.before in
-    over_next t.before.loop.invariant t.loop-test.true _ (c.get2.ensures.0 ∙ word_at x.args.input.now x.requires.0 _ t.loop-test.true))
+    (λ c. over_next c.loop-i.invariant c.loop-i-test.true _ (c.get2.ensures.0 ∙ word_at c.args.input.now c.requires.0 _ c.loop-i-test.true))
     (λ c. over_length c.loop-i.invariant)
-    (λ c.
-    let x = c.before.before.before.before in
-    (sym (words_many x.args.input.now x.requires.0), over_done c.before.loop.invariant c.loop-test.false)))
+    (λ c. (sym (words_many c.args.input.now c.requires.0), over_done c.loop-i.invariant c.loop-i-test.false)))

@@ -40,10 +40,7 @@ put_neighbours_spec =
     (λ c κs. search rules)
     (λ c κs. search rules)
     (λ c κs. fits (begin_two c.args.sign.now _ c.requires.2))
-    (λ c.
-    let s = c.before.before in
-    let v = s.before.before in
-    begin_neighbours _ _ _ (v.value.ensures ∙ ap (λ (r : Reply). r.value) v.before.answer.ensures) (fits (marked s)))
+    (λ c. begin_neighbours _ _ _ (c.value-count.ensures ∙ ap (λ (r : Reply). r.value) c.answer.ensures) (fits (marked c.before.before)))
     (λ c. search rules)
     (λ c κs. let p = c.requires.0 in (p.proper, p.trytes, p.laid))
     (λ c κs. fits (turn c.before))

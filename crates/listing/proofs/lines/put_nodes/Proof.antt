@@ -31,14 +31,9 @@ put_nodes_spec =
     (λ c. omega (arith, small c.before))
     (λ c. begin_nodes _ c.requires.0.laid c.requires.1)
     (λ c. omega (arith, small c.before.before.before))
-    (λ c κs.
-    let l = c.before.before in
-    let p = l.before.before.before.before.requires.0 in
-    (p, omega arith, omega (arith, nodes_are _ p.laid, c.before.loop-test.true), fits (part_next _ _ _ l.loop.invariant c.before.loop-test.true refl)))
+    (λ c κs. let p = c.requires.0 in
+    (p, omega arith, omega (arith, nodes_are _ p.laid, c.loop-i-test.true), fits (part_next _ _ _ c.loop-i.invariant c.loop-i-test.true refl)))
     (λ c. omega arith)
-    (λ c.
-    let n = c.before.before in
-    let t = n.before.before in
-    next (part_next _ _ _ t.before.loop.invariant t.loop-test.true refl) n.put-node.ensures)
+    (λ c. next (part_next _ _ _ c.loop-i.invariant c.loop-i-test.true refl) c.put_node-end.ensures)
     (λ c. left_length c.loop-i.invariant)
     (λ c. parts_done _ _ _ c.loop-i.invariant c.loop-i-test.false))

@@ -8,13 +8,6 @@ use Rattle.listing.proofs.text.put_field.Tie as tie
 pub put_field_spec : {M : Type 1} → statement M
 put_field_spec =
     tie.close (tie.spec (λ c κs. fits (begin_two c.args.word.now (decimal c.args.x) c.requires))
-    (λ c κs.
-    let w = c.before.before.before in
-    let x = w.before.before.before.before in
-    fits (next (begin_two x.args.word.now (decimal x.args.x) x.requires) w.put_word.ensures))
+    (λ c κs. fits (next (begin_two c.args.word.now (decimal c.args.x) c.requires) c.put_word-end.ensures))
     (λ c. search rules)
-    (λ c.
-    let d = c.before.before in
-    let w = d.before.before.before.before in
-    let x = w.before.before.before.before in
-    finish (next (next (begin_two x.args.word.now (decimal x.args.x) x.requires) w.put_word.ensures) d.put-decimal.ensures)))
+    (λ c. finish (next (next (begin_two c.args.word.now (decimal c.args.x) c.requires) c.put_word-end.ensures) c.put_decimal.ensures)))

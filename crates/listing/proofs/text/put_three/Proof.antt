@@ -16,13 +16,6 @@ pub put_three_spec : {M : Type 1} → statement M
 put_three_spec =
     tie.close (tie.spec (λ c κs. fits (start c.before.before.before.before))
     (λ c κs. fits (next (start c.before.before.before.before.before.before.before.before) c.put_field-first.ensures))
-    (λ c κs.
-    let g = c.before.before.before in
-    let f = g.before.before.before.before in
-    fits (next (next (start f.before.before.before.before.before) f.put-field.ensures) g.put-field2.ensures))
+    (λ c κs. fits (next (next (start c.before.before.before.before.before.before.before.before.before.before.before.before) c.put_field-first.ensures) c.put_field-second.ensures))
     (λ c. search rules)
-    (λ c.
-    let h = c.before.before in
-    let g = h.before.before.before.before in
-    let f = g.before.before.before.before in
-    finish (next (next (next (start f.before.before.before.before.before) f.put-field.ensures) g.put-field2.ensures) h.put-field3.ensures)))
+    (λ c. finish (next (next (next (start c.before.before.before.before.before.before.before.before.before.before.before.before.before.before.before) c.put_field-first.ensures) c.put_field-second.ensures) c.put_field.ensures)))
