@@ -5,24 +5,26 @@
 ghost use Rattle.std.specs.Prelude.{◌≡◌, ◌<◌};
 
 use format::{Checked, Packed, Refusal, Tally, Unpacked};
+use std::io;
+use std::io::{Print, Write};
 
 // ---- what is read and written
 
-fn say(text: &[u8]) {
-    io::write_all(1, text);
+fn say(rt: &impl Print, text: &[u8]) -> io::Result<()> {
+    io::writer(rt).write_all(text)
 }
 
-fn say_number(x: u32) {
-    io::print_decimal(1, x as u64);
+fn say_number(rt: &impl Print, x: u32) -> io::Result<()> {
+    print!(rt; "{x}")
 }
 
-fn say_size(size: usize) {
-    io::print_decimal(1, size as u64);
+fn say_size(rt: &impl Print, size: usize) -> io::Result<()> {
+    print!(rt; "{size}")
 }
 
-fn say_refused(f: Refusal) {
-    say(b"refused ");
-    say_number(format::number(f));
+fn say_refused(rt: &impl Print, f: Refusal) -> io::Result<()> {
+    say(rt, b"refused ")?;
+    say_number(rt, format::number(f))
 }
 
 fn wide(x: u16) -> u32
@@ -32,18 +34,20 @@ fn wide(x: u16) -> u32
 }
 
 // A space and a number, for each word.
-fn say_words(words: &[u32]) {
+fn say_words(rt: &impl Print, words: &[u32]) -> io::Result<()> {
     for i in 0..words.len() {
-        say(b" ");
-        say_number(words[i]);
+        say(rt, b" ")?;
+        say_number(rt, words[i])?;
     }
+    Ok(())
 }
 
-fn say_short_words(words: &[u16]) {
+fn say_short_words(rt: &impl Print, words: &[u16]) -> io::Result<()> {
     for i in 0..words.len() {
-        say(b" ");
-        say_number(wide(words[i]));
+        say(rt, b" ")?;
+        say_number(rt, wide(words[i]))?;
     }
+    Ok(())
 }
 
 // A number with one digit more.
@@ -104,53 +108,61 @@ fn front_bytes(bytes: &[u8], size: usize) -> &[u8] {
 }
 
 // Packs a table, and says the answer and what became of the work.
-fn pack_in(name: &[u8], table: &[u16], order: &mut [u16], work: &mut [u32], image: &mut [u8]) {
-    say(name);
+fn pack_in(
+    rt: &impl Print,
+    name: &[u8],
+    table: &[u16],
+    order: &mut [u16],
+    work: &mut [u32],
+    image: &mut [u8],
+) -> io::Result<()> {
+    say(rt, name)?;
     match packing::pack::pack(table, order, work, image) {
-        Packed::Refused(f) => say_refused(f),
+        Packed::Refused(f) => say_refused(rt, f)?,
         Packed::Image(size) => {
-            say_size(size);
-            say(b" bytes, order");
-            say_short_words(order);
+            say_size(rt, size)?;
+            say(rt, b" bytes, order")?;
+            say_short_words(rt, order)?;
         }
     }
-    say(b"; work: ");
-    say_size(count(work, 0));
-    say(b" words zero, ");
-    say_size(count(work, 7));
-    say(b" as before\n");
+    say(rt, b"; work: ")?;
+    say_size(rt, count(work, 0))?;
+    say(rt, b" words zero, ")?;
+    say_size(rt, count(work, 7))?;
+    say(rt, b" as before\n")
 }
 
 // A table by its words.
-fn pack(words: &[u8]) {
+fn pack(rt: &impl Print, words: &[u8]) -> io::Result<()> {
     let mut table = [0u16; 32];
     let mut order = [0u16; 8];
     let mut work = [7u32; 30];
     let mut image = [0u8; 105];
     let size = read(words, &mut table);
-    say(b"table");
-    say_short_words(front(&table, size));
+    say(rt, b"table")?;
+    say_short_words(rt, front(&table, size))?;
     pack_in(
+        rt,
         b": ",
         front(&table, size),
         &mut order,
         &mut work,
         &mut image,
-    );
+    )
 }
 
 // Words front to back: the first fault among 1 to 5, then 6; a node that no root reaches is 8, and clears the work called for.
-fn tables_refused() {
-    pack(b"");
-    pack(b"0 ");
-    pack(b"30001 ");
-    pack(b"1 1 2 ");
-    pack(b"1 0 1 2 ");
-    pack(b"0 1 1 ");
-    pack(b"1 0 2 1 1 ");
-    pack(b"0 0 7 ");
-    pack(b"2 0 0 1 1 ");
-    pack(b"1 0 0 ");
+fn tables_refused(rt: &impl Print) -> io::Result<()> {
+    pack(rt, b"")?;
+    pack(rt, b"0 ")?;
+    pack(rt, b"30001 ")?;
+    pack(rt, b"1 1 2 ")?;
+    pack(rt, b"1 0 1 2 ")?;
+    pack(rt, b"0 1 1 ")?;
+    pack(rt, b"1 0 2 1 1 ")?;
+    pack(rt, b"0 0 7 ")?;
+    pack(rt, b"2 0 0 1 1 ")?;
+    pack(rt, b"1 0 0 ")
 }
 
 // The table of the drawn graph.
@@ -161,7 +173,7 @@ fn drawn_table() -> [u16; 22] {
 }
 
 // The drawn graph, with each buffer one too short, and with room.
-fn drawn_packed() {
+fn drawn_packed(rt: &impl Print) -> io::Result<()> {
     let table = drawn_table();
     let mut order = [0u16; 8];
     let mut image = [0u8; 105];
@@ -171,33 +183,37 @@ fn drawn_packed() {
     let mut work = [7u32; 30];
     let mut more_work = [7u32; 30];
     pack_in(
+        rt,
         b"drawn graph, order list of 7: ",
         &table,
         &mut short_order,
         &mut work,
         &mut image,
-    );
+    )?;
     pack_in(
+        rt,
         b"drawn graph, work of 23: ",
         &table,
         &mut order,
         &mut short_work,
         &mut image,
-    );
+    )?;
     pack_in(
+        rt,
         b"drawn graph, image of 104: ",
         &table,
         &mut order,
         &mut work,
         &mut short_image,
-    );
+    )?;
     pack_in(
+        rt,
         b"drawn graph: ",
         &table,
         &mut order,
         &mut more_work,
         &mut image,
-    );
+    )
 }
 
 // 30,000 nodes, all roots, no edges.
@@ -212,7 +228,7 @@ fn all_roots(table: &mut [u16]) {
     }
 }
 
-fn many_packed() {
+fn many_packed(rt: &impl Print) -> io::Result<()> {
     let mut table = [0u16; 60002];
     let mut order = [0u16; 30000];
     let mut work = [0u32; 90000];
@@ -220,16 +236,16 @@ fn many_packed() {
     table[0] = 30000;
     table[30001] = 30000;
     all_roots(&mut table);
-    say(b"30000 roots: ");
+    say(rt, b"30000 roots: ")?;
     match packing::pack::pack(&table, &mut order, &mut work, &mut image) {
-        Packed::Refused(f) => say_refused(f),
+        Packed::Refused(f) => say_refused(rt, f)?,
         Packed::Image(size) => {
-            say_size(size);
-            say(b" bytes, trits ");
-            say_size(little::get4(&image, 0));
+            say_size(rt, size)?;
+            say(rt, b" bytes, trits ")?;
+            say_size(rt, little::get4(&image, 0))?;
         }
     }
-    say(b"\n");
+    say(rt, b"\n")
 }
 
 // ---- images
@@ -244,34 +260,41 @@ fn drawn() -> [u8; 106] {
     image
 }
 
-fn check(name: &[u8], image: &[u8]) {
-    say(name);
+fn check(rt: &impl Print, name: &[u8], image: &[u8]) -> io::Result<()> {
+    say(rt, name)?;
     match proper::check::check(image) {
-        Checked::Proper => say(b": proper"),
+        Checked::Proper => say(rt, b": proper")?,
         Checked::Refused(f) => {
-            say(b": ");
-            say_refused(f);
+            say(rt, b": ")?;
+            say_refused(rt, f)?;
         }
     }
-    say(b"\n");
+    say(rt, b"\n")
 }
 
 // The first bytes of the drawn graph's image.
-fn cut(name: &[u8], size: usize) {
+fn cut(rt: &impl Print, name: &[u8], size: usize) -> io::Result<()> {
     let image = drawn();
-    check(name, front_bytes(&image, size));
+    check(rt, name, front_bytes(&image, size))
 }
 
 // That image with two bytes changed, or one.
-fn damaged_twice(name: &[u8], at: usize, byte: u8, other: usize, with: u8) {
+fn damaged_twice(
+    rt: &impl Print,
+    name: &[u8],
+    at: usize,
+    byte: u8,
+    other: usize,
+    with: u8,
+) -> io::Result<()> {
     let mut image = drawn();
     put(&mut image, at, byte);
     put(&mut image, other, with);
-    check(name, front_bytes(&image, 105));
+    check(rt, name, front_bytes(&image, 105))
 }
 
-fn damaged(name: &[u8], at: usize, byte: u8) {
-    damaged_twice(name, at, byte, at, byte);
+fn damaged(rt: &impl Print, name: &[u8], at: usize, byte: u8) -> io::Result<()> {
+    damaged_twice(rt, name, at, byte, at, byte)
 }
 
 fn put(image: &mut [u8], at: usize, byte: u8) {
@@ -280,89 +303,98 @@ fn put(image: &mut [u8], at: usize, byte: u8) {
     }
 }
 
-fn images_cut() {
-    cut(b"drawn graph", 105);
-    cut(b"no bytes", 0);
-    cut(b"a count of 3 bytes", 3);
-    cut(b"section 1 of 4 trytes", 8);
-    cut(b"section 8 last", 99);
-    cut(b"a byte missing", 104);
+fn images_cut(rt: &impl Print) -> io::Result<()> {
+    cut(rt, b"drawn graph", 105)?;
+    cut(rt, b"no bytes", 0)?;
+    cut(rt, b"a count of 3 bytes", 3)?;
+    cut(rt, b"section 1 of 4 trytes", 8)?;
+    cut(rt, b"section 8 last", 99)?;
+    cut(rt, b"a byte missing", 104)
 }
 
 // Each line breaks the rule that it names and no other of section 1's.
-fn trits_wrong() {
-    damaged(b"L too large", 2, 2);
-    damaged(b"L 0", 0, 0);
-    damaged(b"a byte of 243", 8, 243);
-    damaged(b"padding not 0", 8, 3);
-    damaged(b"a 2 before the first zero", 4, 68);
-    damaged(b"a zero before its one", 4, 109);
-    damaged(b"a one too many", 4, 40);
-    damaged_twice(b"a last trit of 2", 7, 6, 8, 2);
+fn trits_wrong(rt: &impl Print) -> io::Result<()> {
+    damaged(rt, b"L too large", 2, 2)?;
+    damaged(rt, b"L 0", 0, 0)?;
+    damaged(rt, b"a byte of 243", 8, 243)?;
+    damaged(rt, b"padding not 0", 8, 3)?;
+    damaged(rt, b"a 2 before the first zero", 4, 68)?;
+    damaged(rt, b"a zero before its one", 4, 109)?;
+    damaged(rt, b"a one too many", 4, 40)?;
+    damaged_twice(rt, b"a last trit of 2", 7, 6, 8, 2)
 }
 
-fn index_wrong() {
-    damaged(b"count of section 2", 9, 5);
-    damaged(b"a shadow of no node", 13, 0);
-    damaged(b"count of section 3", 21, 9);
-    damaged(b"a mark too many", 25, 201);
-    damaged(b"a start in section 4", 41, 2);
-    damaged(b"a place in section 5", 57, 13);
-    damaged(b"a pair in section 6", 77, 1);
-    damaged(b"a pair in section 7", 89, 1);
-    damaged(b"count of section 8", 93, 2);
-    damaged(b"a sample in section 9", 103, 1);
-    cut(b"a byte more", 106);
+fn index_wrong(rt: &impl Print) -> io::Result<()> {
+    damaged(rt, b"count of section 2", 9, 5)?;
+    damaged(rt, b"a shadow of no node", 13, 0)?;
+    damaged(rt, b"count of section 3", 21, 9)?;
+    damaged(rt, b"a mark too many", 25, 201)?;
+    damaged(rt, b"a start in section 4", 41, 2)?;
+    damaged(rt, b"a place in section 5", 57, 13)?;
+    damaged(rt, b"a pair in section 6", 77, 1)?;
+    damaged(rt, b"a pair in section 7", 89, 1)?;
+    damaged(rt, b"count of section 8", 93, 2)?;
+    damaged(rt, b"a sample in section 9", 103, 1)?;
+    cut(rt, b"a byte more", 106)
 }
 
 // ---- unpacking
 
-fn unpack(name: &[u8], image: &[u8], table: &mut [u16]) {
-    say(name);
+fn unpack(rt: &impl Print, name: &[u8], image: &[u8], table: &mut [u16]) -> io::Result<()> {
+    say(rt, name)?;
     match unpacking::unpack(image, table) {
-        Unpacked::Refused(f) => say_refused(f),
+        Unpacked::Refused(f) => say_refused(rt, f)?,
         Unpacked::Table(size) => {
-            say_size(size);
-            say(b" words");
+            say_size(rt, size)?;
+            say(rt, b" words")?;
         }
     }
-    say(b"; table");
-    say_short_words(table);
-    say(b"\n");
+    say(rt, b"; table")?;
+    say_short_words(rt, table)?;
+    say(rt, b"\n")
 }
 
-fn drawn_unpacked() {
+fn drawn_unpacked(rt: &impl Print) -> io::Result<()> {
     let image = drawn();
     let mut short = [9u16; 21];
     let mut table = [9u16; 23];
     unpack(
+        rt,
         b"drawn graph, table of 21: ",
         front_bytes(&image, 105),
         &mut short,
-    );
+    )?;
     unpack(
+        rt,
         b"drawn graph, table of 23: ",
         front_bytes(&image, 105),
         &mut table,
-    );
+    )
 }
 
 // ---- questions
 
 // A batch about an image: its number, the answers' words, the tally.
-fn ask(name: &[u8], image: &[u8], questions: &[u32], answers: &mut [u32], tally: Tally) {
+fn ask(
+    rt: &impl Print,
+    name: &[u8],
+    image: &[u8],
+    questions: &[u32],
+    answers: &mut [u32],
+    tally: Tally,
+) -> io::Result<()> {
     let done = asking::batch::ask(image, questions, answers, tally);
     let left = done.tally;
-    say(name);
-    say(b", asked");
-    say_words(questions);
-    say(b": ");
-    say_number(done.code);
-    say(b"; answers");
-    say_words(answers);
-    say(b"; tally");
-    say_words(&[left.asked, left.answered, left.refused]);
-    say(b"\n");
+    say(rt, name)?;
+    say(rt, b", asked")?;
+    say_words(rt, questions)?;
+    say(rt, b": ")?;
+    say_number(rt, done.code)?;
+    say(rt, b"; answers")?;
+    say_words(rt, answers)?;
+    say(rt, b"; tally")?;
+    say_words(rt, &[left.asked, left.answered, left.refused])?;
+    say(rt, b"\n")
 }
 
 fn none() -> Tally {
@@ -374,27 +406,28 @@ fn none() -> Tally {
 }
 
 // One question about the drawn graph.
-fn one(name: &[u8], kind: u32, a: u32, b: u32) {
+fn one(rt: &impl Print, name: &[u8], kind: u32, a: u32, b: u32) -> io::Result<()> {
     let image = drawn();
     let mut answers = [9u32; 3];
     ask(
+        rt,
         name,
         front_bytes(&image, 105),
         &[kind, a, b],
         &mut answers,
         none(),
-    );
+    )
 }
 
-fn questions_asked() {
-    one(b"rank of 1 before L", 1, 1, 21);
-    one(b"rank of 1 before L + 1", 1, 1, 22);
-    one(b"kind 7", 7, 1, 0);
-    one(b"operands of node 9", 3, 9, 0);
-    one(b"third operand of node 1", 4, 1, 3);
+fn questions_asked(rt: &impl Print) -> io::Result<()> {
+    one(rt, b"rank of 1 before L", 1, 1, 21)?;
+    one(rt, b"rank of 1 before L + 1", 1, 1, 22)?;
+    one(rt, b"kind 7", 7, 1, 0)?;
+    one(rt, b"operands of node 9", 3, 9, 0)?;
+    one(rt, b"third operand of node 1", 4, 1, 3)
 }
 
-fn batches_refused() {
+fn batches_refused(rt: &impl Print) -> io::Result<()> {
     let whole = drawn();
     let image = front_bytes(&whole, 105);
     let mut answers = [9u32; 3];
@@ -403,77 +436,102 @@ fn batches_refused() {
         answered: 4294967295,
         refused: 0,
     };
-    ask(b"batch of 2 words", image, &[3, 1], &mut answers, none());
     ask(
+        rt,
+        b"batch of 2 words",
+        image,
+        &[3, 1],
+        &mut answers,
+        none(),
+    )?;
+    ask(
+        rt,
         b"answers of 3 words",
         image,
         &[3, 1, 0, 3, 2, 0],
         &mut answers,
         none(),
-    );
-    ask(b"a full tally field", image, &[3, 1, 0], &mut answers, full);
+    )?;
     ask(
+        rt,
+        b"a full tally field",
+        image,
+        &[3, 1, 0],
+        &mut answers,
+        full,
+    )?;
+    ask(
+        rt,
         b"no question, a full tally field",
         image,
         &[],
         &mut answers,
         full,
-    );
-    ask(b"no question, no image", &[], &[], &mut answers, none());
+    )?;
+    ask(rt, b"no question, no image", &[], &[], &mut answers, none())
 }
 
 // ---- errors seen in packers
 
 // One question about a table's image.
-fn pack_ask(words: &[u8], kind: u32, a: u32, b: u32) {
+fn pack_ask(rt: &impl Print, words: &[u8], kind: u32, a: u32, b: u32) -> io::Result<()> {
     let mut table = [0u16; 32];
     let mut order = [0u16; 12];
     let mut work = [0u32; 36];
     let mut image = [0u8; 200];
     let mut answers = [9u32; 3];
     let size = read(words, &mut table);
-    say(b"table");
-    say_short_words(front(&table, size));
+    say(rt, b"table")?;
+    say_short_words(rt, front(&table, size))?;
     match packing::pack::pack(front(&table, size), &mut order, &mut work, &mut image) {
         Packed::Refused(f) => {
-            say(b": ");
-            say_refused(f);
-            say(b"\n");
+            say(rt, b": ")?;
+            say_refused(rt, f)?;
+            say(rt, b"\n")?;
         }
         Packed::Image(size) => ask(
+            rt,
             b"",
             front_bytes(&image, size),
             &[kind, a, b],
             &mut answers,
             none(),
-        ),
+        )?,
     }
+    Ok(())
 }
 
 // Trytes counted from n + m + c; a user lost; a sample too few where L is 25; H held to n alone; operands by the table's numbers.
-fn errors_seen() {
-    one(b"the ninth zero of the drawn graph, its last trit", 2, 0, 9);
-    one(b"uses of node 7", 5, 7, 0);
-    one(b"user 3 of node 7", 6, 7, 3);
+fn errors_seen(rt: &impl Print) -> io::Result<()> {
+    one(
+        rt,
+        b"the ninth zero of the drawn graph, its last trit",
+        2,
+        0,
+        9,
+    )?;
+    one(rt, b"uses of node 7", 5, 7, 0)?;
+    one(rt, b"user 3 of node 7", 6, 7, 3)?;
     pack_ask(
+        rt,
         b"12 0 0 0 0 0 0 0 0 0 0 0 0 12 1 2 3 4 5 6 7 8 9 10 11 12 ",
         1,
         0,
         25,
-    );
-    damaged(b"a shadow not yet seen", 13, 5);
-    pack_ask(b"3 2 3 2 0 1 2 1 1 ", 6, 3, 2);
+    )?;
+    damaged(rt, b"a shadow not yet seen", 13, 5)?;
+    pack_ask(rt, b"3 2 3 2 0 1 2 1 1 ", 6, 3, 2)
 }
 
-fn main() {
-    tables_refused();
-    drawn_packed();
-    many_packed();
-    images_cut();
-    trits_wrong();
-    index_wrong();
-    drawn_unpacked();
-    questions_asked();
-    batches_refused();
-    errors_seen();
+fn main(rt: HostRuntime) -> io::Result<()> {
+    tables_refused(&rt)?;
+    drawn_packed(&rt)?;
+    many_packed(&rt)?;
+    images_cut(&rt)?;
+    trits_wrong(&rt)?;
+    index_wrong(&rt)?;
+    drawn_unpacked(&rt)?;
+    questions_asked(&rt)?;
+    batches_refused(&rt)?;
+    errors_seen(&rt)
 }

@@ -1,12 +1,30 @@
 // The listing program: reads a table from standard input, and writes its listing, or its refusal.
 #![tactic(auto)]
 
-use libc::{STDIN_FILENO, STDOUT_FILENO};
+ghost use Rattle.std.specs.Prelude.{◌≤◌, length, IfOk};
 
-fn main() {
+use std::io;
+use std::io::{Read, Write};
+
+// Reads until the buffer is full or the input ends, and answers how many bytes came.
+fn read_full<R: Read>(input: &mut R, buffer: &mut [u8]) -> io::Result<usize>
+    ensures { IfOk result (λ n. n ≤ length buffer.new) }
+{
+    let mut done = 0;
+    while done < buffer.len() {
+        let size = input.read(&mut buffer[done..])?;
+        if size == 0 {
+            break;
+        }
+        done += size;
+    }
+    Ok(done)
+}
+
+fn main(rt: HostRuntime) -> io::Result<()> {
     let mut input = [0u8; 8001];
-    let size = io::read_full(STDIN_FILENO, &mut input);
+    let size = read_full(&mut rt.stdin(), &mut input)?;
     let mut text = [0u8; 100000];
     let end = listing::listing(&input[..size], &mut text);
-    io::write_all(STDOUT_FILENO, &text[..end]);
+    rt.stdout().write_all(&text[..end])
 }
