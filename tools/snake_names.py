@@ -16,8 +16,12 @@ import sys
 APART = {"bothRight", "bytesLow"}
 
 WORD = r"[^\s(){}\[\],;.`]"
-DECLARED = re.compile(r"^\s*((?:pub |abbrev |unfoldable )*)([^\s:(){}]+(?: [^\s:(){}]+)*) :(?: |$)")
+DECLARED = re.compile(r"^\s*((?:pub |abbrev |unfoldable )*)([^\s:(){}]+(?: [^\s:(){}]+)*)(?: \{ℓ\})? :(?: |$)")
 MADE = re.compile(r"(-spec|-requires|(?<!unpacked)-again|-preserved|-init|-smaller)(-\d+)?$|^(returns|loop|invariant|decreases|overflow|ghost)(-|$)|^\+")
+
+
+# variables that stand in an edit or a statement, and a field that a proof names a goal by
+LOCAL = {"countFault", "contentsFault", "wrongCount", "not-threes"}
 
 
 def files(root, endings):
@@ -35,7 +39,7 @@ def snake(name):
 
 
 def own_names(root):
-    names, library, made = set(), set(), set()
+    names, library, made = set(LOCAL), set(), set()
     for path in files(os.path.join(root, "crates"), (".antt", ".rt")):
         text = open(path, encoding="utf-8").read()
         for module, items in re.findall(r"use ([\w.+'·-]+)\.\{([^}]*)\}", text):
@@ -49,7 +53,7 @@ def own_names(root):
             if not m or line.lstrip().startswith(("--", "let ")):
                 continue
             for name in m.group(2).split():
-                if "tie.Need-" in line or " statement " in line or MADE.search(name):
+                if "tie.Need-" in line or "goal." in line or " statement " in line or MADE.search(name):
                     made.add(name)
                 else:
                     names.add(name)
@@ -61,7 +65,7 @@ def main():
     names, library, made = own_names(root)
     turned = {}
     for name in sorted(names):
-        if name[0].isupper() or name in library or name in made or "◌" in name:
+        if name[0].isupper() or name in library or (name in made and name not in LOCAL) or "◌" in name:
             continue
         new = snake(name)
         if "-" in name and (new in names or any(snake(n) == new for n in names if n != name and "-" not in n)):

@@ -208,7 +208,7 @@ batch_leaves_lem image questions buffer t r =
 
 pub batch_gives : (image questions buffer : List ℕ) (t : Tally) → BatchGives image questions buffer t (batch_outcome image questions buffer t)
 batch_gives image questions buffer t = record {
-  not-threes = batch_41 image questions buffer t;
+  not_threes = batch_41 image questions buffer t;
   buffer_short = batch_42 image questions buffer t;
   tally_full = batch_43 image questions buffer t;
   improper = batch_improper image questions buffer t;

@@ -10,7 +10,7 @@ use mathlib.Core.List.{List, [], ◌∷◌, ◌++◌, map, append-nil}
 use lib.Dec.{eqb, ltb}
 use lib.ListN.{length, get_or}
 use borrow.Author.Tests.{eqb-true, eq-eqb, ne_eqb, lt-ltb, le-ltb}
-use Rattle.format.specs.Lists.{run, consIf, keep, Below, count_in, RisingFrom}
+use Rattle.format.specs.Lists.{run, cons_if, keep, Below, count_in, RisingFrom}
 use Rattle.format.specs.Trits.{rank, Selected, places}
 use Rattle.format.specs.Image.{shadow_at, group}
 use Rattle.format.specs.Edges.{operand_at, edge_at, operand_edges, use_edges, is_edge, Edge}
@@ -24,24 +24,24 @@ module _ {ℓ κ} {A : Type ℓ} {B : Type κ} where
   keep_map f g [] = refl
   keep_map f g (x ∷ xs) = go (f (g x)) (keep_map f g xs)
     where
-      go : (b : Bool) → keep f (map g xs) ≡ map g (keep (λ x. f (g x)) xs) → consIf b (g x) (keep f (map g xs)) ≡ map g (consIf b x (keep (λ x. f (g x)) xs))
+      go : (b : Bool) → keep f (map g xs) ≡ map g (keep (λ x. f (g x)) xs) → cons_if b (g x) (keep f (map g xs)) ≡ map g (cons_if b x (keep (λ x. f (g x)) xs))
       go true e = ap {B = List B} (λ r. g x ∷ r) e
       go false e = e
 
 keep_run_cong : (f g : ℕ → Bool) (a n : ℕ) → ((p : ℕ) → a ≤ p → p < a + n → f p ≡ g p) → keep f (run a n) ≡ keep g (run a n)
 keep_run_cong f g a zero h = refl
 keep_run_cong f g a (suc n) h =
-    ap₂ (λ (b : Bool) (r : List ℕ). consIf b a r) (h a (le_refl a) (omega arith)) (keep_run_cong f g (suc a) n (λ p l u. h p (omega arith) (omega arith)))
+    ap₂ (λ (b : Bool) (r : List ℕ). cons_if b a r) (h a (le_refl a) (omega arith)) (keep_run_cong f g (suc a) n (λ p l u. h p (omega arith) (omega arith)))
 
 keep_run_none : (f : ℕ → Bool) (a n : ℕ) → ((p : ℕ) → a ≤ p → p < a + n → f p ≡ false) → keep f (run a n) ≡ []
 keep_run_none f a zero h = refl
 keep_run_none f a (suc n) h =
-    ap₂ (λ (b : Bool) (r : List ℕ). consIf b a r) (h a (le_refl a) (omega arith)) (keep_run_none f (suc a) n (λ p l u. h p (omega arith) (omega arith)))
+    ap₂ (λ (b : Bool) (r : List ℕ). cons_if b a r) (h a (le_refl a) (omega arith)) (keep_run_none f (suc a) n (λ p l u. h p (omega arith) (omega arith)))
 
 keep_run_all : (f : ℕ → Bool) (a n : ℕ) → ((p : ℕ) → a ≤ p → p < a + n → f p ≡ true) → keep f (run a n) ≡ run a n
 keep_run_all f a zero h = refl
 keep_run_all f a (suc n) h =
-    ap₂ (λ (b : Bool) (r : List ℕ). consIf b a r) (h a (le_refl a) (omega arith)) (keep_run_all f (suc a) n (λ p l u. h p (omega arith) (omega arith)))
+    ap₂ (λ (b : Bool) (r : List ℕ). cons_if b a r) (h a (le_refl a) (omega arith)) (keep_run_all f (suc a) n (λ p l u. h p (omega arith) (omega arith)))
 
 -- a run, cut at a place in it
 pub keep_run_cut : (f : ℕ → Bool) (a n m : ℕ) → keep f (run a (n + m)) ≡ keep f (run a n) ++ keep f (run (a + n) m)
@@ -199,29 +199,29 @@ module _ (trits H : List ℕ) (i r : ℕ) (three : Below 3 trits) (seen : Seen t
   two_here = ap (λ (x : ℕ). eqb x 2 && eqb (get_or H (rank 2 trits r) 0) i) sel.holds
 
   -- the real use, where its user is not the super-root, and then the shadows by place
-  pub use_edges_run : length H ≡ count_in 2 trits → use_edges trits H i ≡ map (edge_at trits H) (consIf (ltb 0 (rank 0 trits r)) r [] ++ group trits H i)
+  pub use_edges_run : length H ≡ count_in 2 trits → use_edges trits H i ≡ map (edge_at trits H) (cons_if (ltb 0 (rank 0 trits r)) r [] ++ group trits H i)
   unfolding use_at
   use_edges_run e =
       let L : ℕ = length trits in
       let inr : r < L = sel.inside in
       let cut : L ≡ r + (1 + (L - suc r)) = omega arith in
       let rest : List ℕ = keep (two_of trits H i) (run (suc r) (L - suc r)) in
-      let split : (f : ℕ → Bool) → keep f (run 0 L) ≡ keep f (run 0 r) ++ (consIf (f r) r [] ++ keep f (run (suc r) (L - suc r))) = λ f.
+      let split : (f : ℕ → Bool) → keep f (run 0 L) ≡ keep f (run 0 r) ++ (cons_if (f r) r [] ++ keep f (run (suc r) (L - suc r))) = λ f.
       ap (λ (k : ℕ). keep f (run 0 k)) cut ∙ keep_run_cut f 0 r (1 + (L - suc r))
       ∙ ap (λ (l : List ℕ). keep f (run 0 r) ++ l) (ap (λ (k : ℕ). keep f (run k (1 + (L - suc r)))) (zero-add r) ∙ keep_run_cut f r 1 (L - suc r)
-      ∙ ap (λ (k : ℕ). consIf (f r) r [] ++ keep f (run k (L - suc r))) (add-one r)) in
+      ∙ ap (λ (k : ℕ). cons_if (f r) r [] ++ keep f (run k (L - suc r))) (add-one r)) in
       let twos : keep (two_of trits H i) (run 0 L) ≡ rest =
       split (two_of trits H i)
-      ∙ ap (λ (l : List ℕ). l ++ (consIf (two_of trits H i r) r [] ++ rest)) (keep_run_none (two_of trits H i) 0 r (λ p l u. two_later p (omega arith)))
-      ∙ ap (λ (b : Bool). consIf b r [] ++ rest) two_here in
-      let uses : keep use_at (run 0 L) ≡ consIf (ltb 0 (rank 0 trits r)) r [] ++ rest =
+      ∙ ap (λ (l : List ℕ). l ++ (cons_if (two_of trits H i r) r [] ++ rest)) (keep_run_none (two_of trits H i) 0 r (λ p l u. two_later p (omega arith)))
+      ∙ ap (λ (b : Bool). cons_if b r [] ++ rest) two_here in
+      let uses : keep use_at (run 0 L) ≡ cons_if (ltb 0 (rank 0 trits r)) r [] ++ rest =
       split use_at
-      ∙ ap (λ (l : List ℕ). l ++ (consIf (use_at r) r [] ++ keep use_at (run (suc r) (L - suc r))))
+      ∙ ap (λ (l : List ℕ). l ++ (cons_if (use_at r) r [] ++ keep use_at (run (suc r) (L - suc r))))
       (keep_run_none use_at 0 r (λ p l u. use_other p (omega arith) (λ q. omega arith) ∙ two_later p (omega arith)))
-      ∙ ap₂ (λ (b : Bool) (l : List ℕ). consIf b r [] ++ l) use_real
+      ∙ ap₂ (λ (b : Bool) (l : List ℕ). cons_if b r [] ++ l) use_real
       (keep_run_cong use_at (two_of trits H i) (suc r) (L - suc r) (λ p l u. use_other p (omega arith) (λ q. omega arith))) in
       use_edges_places trits H i
-      ∙ ap (map (edge_at trits H)) (uses ∙ ap (λ (l : List ℕ). consIf (ltb 0 (rank 0 trits r)) r [] ++ l) (sym twos ∙ keep_twos trits H i))
+      ∙ ap (map (edge_at trits H)) (uses ∙ ap (λ (l : List ℕ). cons_if (ltb 0 (rank 0 trits r)) r [] ++ l) (sym twos ∙ keep_twos trits H i))
 
 -- "Uses are edges in order of their place in the trits"
 pub uses_rise : (trits H : List ℕ) (v : ℕ) → RisingFrom 0 (map (λ (e : Edge). e.place) (use_edges trits H v))

@@ -9,9 +9,9 @@ use mathlib.Core.List.{List, [], ◌∷◌, map, map-map}
 use lib.Dec.{eqb, ltb}
 use lib.ListN.{length, get_or, length-map, get_or-eq_default}
 use borrow.Author.Tests.{eqb-true, ltb-true}
-use Rattle.format.specs.Lists.{run, keep, consIf, count_in}
+use Rattle.format.specs.Lists.{run, keep, cons_if, count_in}
 use Rattle.format.specs.Trits.{rank, places}
-use Rattle.format.specs.Image.{node_count, edge_count, written, image, group, shadow_at}
+use Rattle.format.specs.Image.{node_count, edge_count, image, group, shadow_at}
 use Rattle.format.specs.Proper.{trits_of, shadows_of, ProperTrits}
 use Rattle.format.specs.Edges.{operand_at, edge_at, edge_list, operand_edges, is_edge, user_of}
 use Rattle.format.specs.Table.{AllNodes}
@@ -37,7 +37,7 @@ each_keep : (P : ℕ → Type 0) (f : ℕ → Bool) (xs : List ℕ) → ((i : �
 each_keep P f [] h i l = absurd (not-suc-le-zero l)
 each_keep P f (x ∷ xs) h i l = go (f x) refl (each_keep P f xs (λ j k. h (suc j) (suc-le-suc k))) i l
   where
-    go : (b : Bool) → f x ≡ b → Each P (keep f xs) → (i : ℕ) → i < length (consIf b x (keep f xs)) → P (get_or (consIf b x (keep f xs)) i 0)
+    go : (b : Bool) → f x ≡ b → Each P (keep f xs) → (i : ℕ) → i < length (cons_if b x (keep f xs)) → P (get_or (cons_if b x (keep f xs)) i 0)
     go true e ih zero l = h zero (suc-le-suc zero-le) e
     go true e ih (suc i) l = ih i (le_of_suc-le-suc l)
     go false e ih i l = ih i l

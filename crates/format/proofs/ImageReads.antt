@@ -9,7 +9,7 @@ use mathlib.Core.List.{List, [], ◌∷◌, ◌++◌, map}
 use lib.Dec.{eqb, lit<}
 use lib.ListN.{length, get_or, take, drop, length-drop, length-append, length-map, get_or-append, get_or-map}
 use lib.Seq.{drop-cons, drop_at, take-append-le, drop-append-le, drop-drop, get_or-take, get_or-drop}
-use Rattle.format.specs.Lists.{run, consIf, count_in, up, gather, Below, All, keep}
+use Rattle.format.specs.Lists.{run, cons_if, count_in, up, gather, Below, All, keep}
 use Rattle.format.specs.Trits.{rank, places}
 use Rattle.format.specs.Image.{bytes, node_count, marks, mark_words, group, grouped, marked_nodes, starts, pair, pairs, last_multiple, mark_samples, Section, section1, section2, section3, section4, section5, section6, section7, section8, section9, given, written, image, shadow_at, read, before, sizes}
 use Rattle.format.specs.Proper.{ProperTrits}
@@ -97,7 +97,7 @@ module _ {s : Section} {us : List Uniform} {zs b : List ℕ} (S : Sectioned s us
         let ss : List Section = s ∷ map section_of us in
         let l : suc k < length ss = omega (arith, length-map us section_of) in
         let past : drop (before zs (suc k)) b ≡ written (drop (suc k) ss) =
-            subst (λ (z : List ℕ). drop (before z (suc k)) b ≡ written (drop (suc k) ss)) S.sized (rw S.is (written_drop ss (suc k) (omega arith))) in
+        subst (λ (z : List ℕ). drop (before z (suc k)) b ≡ written (drop (suc k) ss)) S.sized (rw S.is (written_drop ss (suc k) (omega arith))) in
         rw (← drop-drop, past, drop-cons ss (suc k) nothing, get_or-map section_of us k empty, fitting.0)
 
     pub number_inside : (i : ℕ) → i < length u.numbers → start + u.width * i + u.width ≤ length b
@@ -125,7 +125,7 @@ module _ (P : ℕ → Type 0) where
   each_append (x ∷ xs) ys hx hy zero l = hx zero (suc-le-suc zero-le)
   each_append (x ∷ xs) ys hx hy (suc i) l = each_append xs ys (λ j k. hx (suc j) (suc-le-suc k)) hy i (le_of_suc-le-suc l)
 
-  each_cons_if : (t : Bool) (x : ℕ) (xs : List ℕ) → P x → Each xs → Each (consIf t x xs)
+  each_cons_if : (t : Bool) (x : ℕ) (xs : List ℕ) → P x → Each xs → Each (cons_if t x xs)
   each_cons_if true x xs hx h zero l = hx
   each_cons_if true x xs hx h (suc i) l = h i (le_of_suc-le-suc l)
   each_cons_if false x xs hx h i l = h i l

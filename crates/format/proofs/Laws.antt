@@ -10,7 +10,7 @@ use lib.Dec.{T, eqb, leb}
 use lib.ListN.{length, get_or, take, drop, length-map, length-take, take-append-drop}
 use lib.Seq.{take-add, take-suc, take_all}
 use borrow.Author.Tests.{eqb-true, eq-eqb, ne_eqb, leb-true, le-leb}
-use Rattle.format.specs.Lists.{bit, run, each, every, consIf, keep, join, same, count_in, Below}
+use Rattle.format.specs.Lists.{bit, run, each, every, cons_if, keep, join, same, count_in, Below}
 use Rattle.format.specs.Trits.{rank}
 use Rattle.format.specs.Table.{is_node, Node}
 
@@ -45,7 +45,7 @@ module _ {ℓ} {A : Type ℓ} where
   pub get_or_each : (n : ℕ) (f : ℕ → A) (i : ℕ) (d : A) → i < n → get_or (each n f) i d ≡ f i
   get_or_each n f i d h = get_or_map_run f 0 n i d h ∙ ap f (zero-add i)
 
-  pub length_cons_if : (b : Bool) (x : A) → length (consIf b x []) ≡ bit b
+  pub length_cons_if : (b : Bool) (x : A) → length (cons_if b x []) ≡ bit b
   length_cons_if true x = refl
   length_cons_if false x = refl
 
@@ -53,7 +53,7 @@ module _ {ℓ} {A : Type ℓ} where
   keep_append f [] ys = refl
   keep_append f (x ∷ xs) ys = go (f x) (keep_append f xs ys)
     where
-      go : (b : Bool) → keep f (xs ++ ys) ≡ keep f xs ++ keep f ys → consIf b x (keep f (xs ++ ys)) ≡ consIf b x (keep f xs) ++ keep f ys
+      go : (b : Bool) → keep f (xs ++ ys) ≡ keep f xs ++ keep f ys → cons_if b x (keep f (xs ++ ys)) ≡ cons_if b x (keep f xs) ++ keep f ys
       go true e = ap {B = List A} (λ r. x ∷ r) e
       go false e = e
 
@@ -62,15 +62,15 @@ module _ {ℓ} {A : Type ℓ} where
   keep_keep f g [] = refl
   keep_keep f g (x ∷ xs) = go (g x) (keep_keep f g xs)
     where
-      go : (b : Bool) → keep f (keep g xs) ≡ keep (λ x. g x && f x) xs → keep f (consIf b x (keep g xs)) ≡ consIf (b && f x) x (keep (λ x. g x && f x) xs)
-      go true e = ap (consIf (f x) x) e
+      go : (b : Bool) → keep f (keep g xs) ≡ keep (λ x. g x && f x) xs → keep f (cons_if b x (keep g xs)) ≡ cons_if (b && f x) x (keep (λ x. g x && f x) xs)
+      go true e = ap (cons_if (f x) x) e
       go false e = e
 
   pub length_keep : (f : A → Bool) (xs : List A) → length (keep f xs) ≤ length xs
   length_keep f [] = zero-le
   length_keep f (x ∷ xs) = go (f x) (length_keep f xs)
     where
-      go : (b : Bool) → length (keep f xs) ≤ length xs → length (consIf b x (keep f xs)) ≤ suc (length xs)
+      go : (b : Bool) → length (keep f xs) ≤ length xs → length (cons_if b x (keep f xs)) ≤ suc (length xs)
       go true h = suc-le-suc h
       go false h = omega arith
 
@@ -79,7 +79,7 @@ module _ {ℓ} {A : Type ℓ} where
   length_keep_key key i [] = refl
   length_keep_key key i (x ∷ xs) = go (eqb (key x) i) (length_keep_key key i xs)
     where
-      go : (b : Bool) → length (keep (λ x. eqb (key x) i) xs) ≡ count_in i (map key xs) → length (consIf b x (keep (λ x. eqb (key x) i) xs)) ≡ bit b + count_in i (map key xs)
+      go : (b : Bool) → length (keep (λ x. eqb (key x) i) xs) ≡ count_in i (map key xs) → length (cons_if b x (keep (λ x. eqb (key x) i) xs)) ≡ bit b + count_in i (map key xs)
       go true e = ap suc e ∙ sym (one-add (count_in i (map key xs)))
       go false e = e ∙ sym (zero-add (count_in i (map key xs)))
 
@@ -243,7 +243,7 @@ keep_at key v [] c h e = absurd (not-suc-le-zero h)
 keep_at key v (x ∷ xs) zero h e = rw (eq-eqb (key x) v e)
 keep_at key v (x ∷ xs) (suc c) h e = skip (eqb (key x) v) (keep (λ x. eqb (key x) v) xs) (rank v (map key xs) c) ∙ keep_at key v xs c (le_of_suc-le-suc h) e
   where
-    skip : (b : Bool) (ys : List ℕ) (r : ℕ) → get_or (consIf b x ys) (bit b + r) 0 ≡ get_or ys r 0
+    skip : (b : Bool) (ys : List ℕ) (r : ℕ) → get_or (cons_if b x ys) (bit b + r) 0 ≡ get_or ys r 0
     skip true ys r = ap (λ (k : ℕ). get_or (x ∷ ys) k 0) (one-add r)
     skip false ys r = ap (λ (k : ℕ). get_or ys k 0) (zero-add r)
 

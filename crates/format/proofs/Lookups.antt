@@ -11,7 +11,7 @@ use lib.ListN.{length, get_or, drop, get_elem?, length-append}
 use lib.Seq.{get_or-append-add, get_or-take, get_or-drop}
 use borrow.Author.Tests.{lt-ltb}
 use Rattle.format.specs.Trits.{nth}
-use Rattle.format.specs.Lists.{bit, run, consIf, count_in, numbered}
+use Rattle.format.specs.Lists.{bit, run, cons_if, count_in, numbered}
 use Rattle.format.specs.Image.{node_count, root_count, group, grouped}
 use Rattle.format.specs.Proper.{ProperTrits}
 use Rattle.format.specs.Edges.{Edge, edge_at, operand_edges, use_edges}
@@ -51,14 +51,14 @@ pub use_real : (trits H : List ℕ) → ProperTrits trits H → (i : ℕ) → ro
     → numbered (use_edges trits H i) 1 ≡ some (edge_at trits H (nth 1 trits i))
 use_real trits H p i hi li =
     ap (λ (es : List Edge). get_elem? es 0) (uses_places trits H p i (omega arith) li
-    ∙ ap (λ (b : Bool). map (edge_at trits H) (consIf b (nth 1 trits i) [] ++ group trits H i)) (lt-ltb (root_count trits) i hi))
+    ∙ ap (λ (b : Bool). map (edge_at trits H) (cons_if b (nth 1 trits i) [] ++ group trits H i)) (lt-ltb (root_count trits) i hi))
 
 -- then the shadows: entry j of the group, which stands in section 5 from the node's start on
 pub use_shadow : (trits H : List ℕ) → ProperTrits trits H → (i j : ℕ) → i < node_count trits → j < count_in (suc i) H
     → numbered (use_edges trits H (suc i)) (suc (bit (ltb (root_count trits) (suc i)) + j))
     ≡ some (edge_at trits H (get_or (grouped trits H (node_count trits)) (length (grouped trits H i) + j) 0))
 use_shadow trits H p i j li lj =
-    let real : List ℕ = consIf (ltb (root_count trits) (suc i)) (nth 1 trits (suc i)) [] in
+    let real : List ℕ = cons_if (ltb (root_count trits) (suc i)) (nth 1 trits (suc i)) [] in
     let G : List ℕ = group trits H (suc i) in
     let len : length real ≡ bit (ltb (root_count trits) (suc i)) = length_cons_if (ltb (root_count trits) (suc i)) (nth 1 trits (suc i)) in
     let lenG : length G ≡ count_in (suc i) H = length_group trits H p.paired (suc i) in

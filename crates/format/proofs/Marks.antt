@@ -13,7 +13,7 @@ use lib.Count.{ones, ones_step}
 use lib.ListN.{length, get_or, take, drop, length-append, length-drop}
 use lib.Seq.{take-append_seam, drop-append_seam, length-take-le, get_or-take, get_or-drop, ext_get_or}
 use borrow.Author.Tests.{ltb-false}
-use Rattle.format.specs.Lists.{bit, run, consIf, keep, count_in, up, low_digits, Below, join}
+use Rattle.format.specs.Lists.{bit, run, cons_if, keep, count_in, up, low_digits, Below, join}
 use Rattle.format.specs.Trits.{rank}
 use Rattle.format.specs.Image.{node_count, marked, marks, mark_words, mark_samples, marked_nodes, group, grouped, starts}
 use Rattle.format.specs.Table.{AllNodes}
@@ -96,13 +96,13 @@ module _ (m : ℕ → Bool) (g : ℕ → ℕ) (flat : (j : ℕ) → m (suc j) �
   before : ℕ → ℕ → ℕ
   before a j = count_in 1 (map (λ i. bit (m i)) (run (suc a) j))
 
-  from_suc : (a n : ℕ) (b : Bool) → m (suc a) ≡ b → from a (suc n) ≡ consIf b (g a) (from (suc a) n)
+  from_suc : (a n : ℕ) (b : Bool) → m (suc a) ≡ b → from a (suc n) ≡ cons_if b (g a) (from (suc a) n)
   unfolding from
   from_suc a n true e =
-      ap (λ (c : Bool). map (λ i. g (i - 1)) (consIf c (suc a) (keep m (run (suc (suc a)) n))) ++ (g (a + suc n) ∷ [])) e
+      ap (λ (c : Bool). map (λ i. g (i - 1)) (cons_if c (suc a) (keep m (run (suc (suc a)) n))) ++ (g (a + suc n) ∷ [])) e
       ∙ ap₂ (λ (x y : ℕ). x ∷ (map (λ i. g (i - 1)) (keep m (run (suc (suc a)) n)) ++ (g y ∷ []))) (ap g (sub-one (suc a))) (add-suc a n ∙ sym (suc-add a n))
   from_suc a n false e =
-      ap (λ (c : Bool). map (λ i. g (i - 1)) (consIf c (suc a) (keep m (run (suc (suc a)) n))) ++ (g (a + suc n) ∷ [])) e
+      ap (λ (c : Bool). map (λ i. g (i - 1)) (cons_if c (suc a) (keep m (run (suc (suc a)) n))) ++ (g (a + suc n) ∷ [])) e
       ∙ ap (λ (y : ℕ). map (λ i. g (i - 1)) (keep m (run (suc (suc a)) n)) ++ (g y ∷ [])) (add-suc a n ∙ sym (suc-add a n))
 
   from_head : (a n : ℕ) → get_or (from a n) 0 0 ≡ g a

@@ -12,7 +12,7 @@ use lib.Dec.{eqb, ltb}
 use lib.ListN.{length-map, length, get_or, drop, replicate, length-append}
 use lib.Seq.{ext_get_or, append_snoc, drop-cons}
 use borrow.Author.Tests.{eq-eqb, ne_eqb, lt-ltb, le-ltb}
-use Rattle.format.specs.Lists.{All, run, one_to, join, keep, consIf, count_in}
+use Rattle.format.specs.Lists.{All, run, one_to, join, keep, cons_if, count_in}
 use Rattle.format.specs.Table.{Graph, nodes, operands_of, words}
 use Rattle.format.specs.Trits.{rank}
 use Rattle.format.specs.Image.{node_count, root_count, image}
@@ -58,10 +58,10 @@ module _ (i : ℕ) where
       go (no l) (no e) = let k : i - z ≡ suc (i - suc z) = omega arith in simp (le-ltb i (suc z) (omega arith), le-ltb i z (omega arith), k)
 
   -- one more number in front of the row
-  row_front : (z x : ℕ) (rows : List (List ℕ)) → consIf (eqb z i) x (row_at z rows) ≡ row_at z (in_front x rows)
+  row_front : (z x : ℕ) (rows : List (List ℕ)) → cons_if (eqb z i) x (row_at z rows) ≡ row_at z (in_front x rows)
   row_front z x rows = go (dec_le (suc i) z) (ℕ_discrete z i) rows
     where
-      go : Dec (suc i ≤ z) → Dec (z ≡ i) → (rs : List (List ℕ)) → consIf (eqb z i) x (row_at z rs) ≡ row_at z (in_front x rs)
+      go : Dec (suc i ≤ z) → Dec (z ≡ i) → (rs : List (List ℕ)) → cons_if (eqb z i) x (row_at z rs) ≡ row_at z (in_front x rs)
       go (yes l) d rs = simp (ne_eqb z i (λ e. omega arith), lt-ltb i z l)
       go (no l) (yes e) [] = let k : i - z ≡ 0 = omega arith in simp (eq-eqb z i e, le-ltb i z (omega arith), k)
       go (no l) (yes e) (r ∷ rs) = let k : i - z ≡ 0 = omega arith in simp (eq-eqb z i e, le-ltb i z (omega arith), k)
@@ -89,18 +89,18 @@ module _ (i : ℕ) where
             none true = refl
             none false = refl
 
-    map_cons_if : (b : Bool) (p : ℕ) (ps : List ℕ) → map (operand_at ts hs) (consIf b p ps) ≡ consIf b (operand_at ts hs p) (map (operand_at ts hs) ps)
+    map_cons_if : (b : Bool) (p : ℕ) (ps : List ℕ) → map (operand_at ts hs) (cons_if b p ps) ≡ cons_if b (operand_at ts hs p) (map (operand_at ts hs) ps)
     map_cons_if true p ps = refl
     map_cons_if false p ps = refl
 
     -- a trit that stands for the number x, in front of trits whose rows are known
     in_row : (q z x v : ℕ) (ps : List ℕ) (rows : List (List ℕ)) → get_or ts q 0 ≡ suc x → rank 0 ts q ≡ z → operand_at ts hs q ≡ v
-        → map (operand_at ts hs) ps ≡ row_at z rows → map (operand_at ts hs) (consIf (mine q) q ps) ≡ row_at z (in_front v rows)
+        → map (operand_at ts hs) ps ≡ row_at z rows → map (operand_at ts hs) (cons_if (mine q) q ps) ≡ row_at z (in_front v rows)
     in_row q z x v ps rows e f o h =
         map_cons_if (mine q) q ps
-        ∙ ap (λ (b : Bool). consIf b (operand_at ts hs q) (map (operand_at ts hs) ps))
+        ∙ ap (λ (b : Bool). cons_if b (operand_at ts hs q) (map (operand_at ts hs) ps))
         (mine_is q (suc x) z e f ∙ ap (λ (b : Bool). (b && ltb 0 z) && eqb z i) (lt-ltb 0 (suc x) (suc-le-suc zero-le)) ∙ mine_edge z)
-        ∙ ap₂ (λ (w : ℕ) (l : List ℕ). consIf (eqb z i) w l) o h
+        ∙ ap₂ (λ (w : ℕ) (l : List ℕ). cons_if (eqb z i) w l) o h
         ∙ row_front z v rows
 
     -- from place q on, with r ones, z zeros and k twos before it
@@ -127,10 +127,10 @@ module _ (i : ℕ) where
               ap (rank 2 ts) eq ∙ c.ranks 2 ∙ sym ek,
             )
 
-        go : (x : ℕ) → ts ≡ a ++ x ∷ b → map (operand_at ts hs) (consIf (mine q) q (keep mine (run (suc q) (length b)))) ≡ row_at z (cut (operand_numbers r (x ∷ b) (drop k hs)))
+        go : (x : ℕ) → ts ≡ a ++ x ∷ b → map (operand_at ts hs) (cons_if (mine q) q (keep mine (run (suc q) (length b)))) ≡ row_at z (cut (operand_numbers r (x ∷ b) (drop k hs)))
         go zero e =
             let c = at 0 e in
-            ap (λ (t : Bool). map (operand_at ts hs) (consIf t q (keep mine (run (suc q) (length b))))) (mine_is q 0 z c.0 c.1)
+            ap (λ (t : Bool). map (operand_at ts hs) (cons_if t q (keep mine (run (suc q) (length b))))) (mine_is q 0 z c.0 c.1)
             ∙ next 0 e r (suc z) k (omega arith) (omega arith) (omega arith)
             ∙ row_end_lem z (cut (operand_numbers r b (drop k hs)))
         go (suc zero) e =
@@ -210,7 +210,7 @@ module _ (key : ℕ → ℕ) where
   without_first : (p : ℕ) (ps : List ℕ) (a n : ℕ) → key p < a → join (map (having (p ∷ ps)) (run a n)) ≡ join (map (having ps) (run a n))
   without_first p ps a zero h = refl
   without_first p ps a (suc n) h =
-      ap₂ (λ (b : Bool) (l : List ℕ). consIf b p (having ps a) ++ l) (ne_eqb (key p) a (λ e. omega arith)) (without_first p ps (suc a) n (omega arith))
+      ap₂ (λ (b : Bool) (l : List ℕ). cons_if b p (having ps a) ++ l) (ne_eqb (key p) a (λ e. omega arith)) (without_first p ps (suc a) n (omega arith))
 
   by_key : (n lo : ℕ) (ps : List ℕ) → Rises key lo ps → All (λ p. key p < lo + n) ps → join (map (having ps) (run lo n)) ≡ ps
   by_key zero lo [] r a = refl
@@ -226,7 +226,7 @@ module _ (key : ℕ → ℕ) where
       go outer [] r a = outer [] tt tt
       go outer (q ∷ qs) r a = elim (ℕ_discrete (key q) lo) [
         | yes e ↦
-            ap₂ (λ (b : Bool) (l : List ℕ). consIf b q (having qs lo) ++ l) (eq-eqb (key q) lo e) (without_first q qs (suc lo) n (omega arith))
+            ap₂ (λ (b : Bool) (l : List ℕ). cons_if b q (having qs lo) ++ l) (eq-eqb (key q) lo e) (without_first q qs (suc lo) n (omega arith))
             ∙ ap (λ (l : List ℕ). q ∷ l) (go outer qs (subst (λ (k : ℕ). Rises key k qs) e r.1) a.1)
         | no e ↦
             let r' : Rises key (suc lo) (q ∷ qs) = (omega arith, r.1) in
@@ -241,7 +241,7 @@ rises_places ts f (suc n) a lo h =
     let m : rank 0 ts a ≤ rank 0 ts (suc a) = rank_mono 0 ts a (suc a) (omega arith) in
     go (f a) (rises_places ts f n (suc a) (rank 0 ts a) m) (rises_places ts f n (suc a) lo (omega arith))
   where
-    go : (b : Bool) → Rises (rank 0 ts) (rank 0 ts a) (keep f (run (suc a) n)) → Rises (rank 0 ts) lo (keep f (run (suc a) n)) → Rises (rank 0 ts) lo (consIf b a (keep f (run (suc a) n)))
+    go : (b : Bool) → Rises (rank 0 ts) (rank 0 ts a) (keep f (run (suc a) n)) → Rises (rank 0 ts) lo (keep f (run (suc a) n)) → Rises (rank 0 ts) lo (cons_if b a (keep f (run (suc a) n)))
     go true x y = (h, x)
     go false x y = y
 

@@ -10,7 +10,7 @@ use mathlib.Core.List.{List, [], ◌∷◌, ◌++◌, map}
 use lib.Dec.{eqb, leb, ltb}
 use lib.ListN.{length, get_or, length-map, length-append}
 use borrow.Author.Tests.{eqb-true, eq-eqb, ne_eqb, le-leb, leb-true, lt-ltb, le-ltb}
-use Rattle.format.specs.Lists.{bit, run, consIf, count_in}
+use Rattle.format.specs.Lists.{bit, run, cons_if, count_in}
 use Rattle.format.specs.Trits.{rank, places, select, Selected, nth}
 use Rattle.format.specs.Image.{until_zero, node_count, root_count, group, shadow_at}
 use Rattle.format.specs.Proper.{roots_first, balanced, grown, ones_before, ProperTrits}
@@ -102,12 +102,12 @@ operands_places trits H p i h l =
     (nth_selected 0 trits (suc i) (suc-le-suc zero-le) (omega (arith, zeros_ones trits p.is_balanced)))
 
 pub uses_places : (trits H : List ℕ) → ProperTrits trits H → (i : ℕ) → 1 ≤ i → i ≤ node_count trits
-    → use_edges trits H i ≡ map (edge_at trits H) (consIf (ltb (root_count trits) i) (nth 1 trits i) [] ++ group trits H i)
+    → use_edges trits H i ≡ map (edge_at trits H) (cons_if (ltb (root_count trits) i) (nth 1 trits i) [] ++ group trits H i)
 unfolding node_count
 uses_places trits H p i h l =
     let s : Selected 1 trits i (nth 1 trits i) = nth_selected 1 trits i h l in
     use_edges_run trits H i (nth 1 trits i) p.threes (proper_seen trits H p) s p.paired
-    ∙ ap (λ (b : Bool). map (edge_at trits H) (consIf b (nth 1 trits i) [] ++ group trits H i)) (root_test trits i (nth 1 trits i) s)
+    ∙ ap (λ (b : Bool). map (edge_at trits H) (cons_if b (nth 1 trits i) [] ++ group trits H i)) (root_test trits i (nth 1 trits i) s)
 
 -- counts of operands and of uses
 pub operand_count_lem : (trits H : List ℕ) → ProperTrits trits H → (i : ℕ) → 1 ≤ i → i ≤ node_count trits
@@ -121,7 +121,7 @@ operand_count_lem trits H p i h l =
 pub use_count_lem : (trits H : List ℕ) → ProperTrits trits H → (i : ℕ) → 1 ≤ i → i ≤ node_count trits
     → length (use_edges trits H i) ≡ bit (ltb (root_count trits) i) + count_in i H
 use_count_lem trits H p i h l =
-    let real : List ℕ = consIf (ltb (root_count trits) i) (nth 1 trits i) [] in
+    let real : List ℕ = cons_if (ltb (root_count trits) i) (nth 1 trits i) [] in
     ap length (uses_places trits H p i h l)
     ∙ length-map (real ++ group trits H i) (edge_at trits H)
     ∙ length-append real (group trits H i)

@@ -11,7 +11,7 @@ use lib.Dec.{eqb, leb, ltb, lit≤, lit<}
 use lib.ListN.{length, get_elem?, get_or, drop}
 use borrow.Author.Tests.{ltb-true}
 use native.Mathlib.Nat.{not-suc-le-zero}
-use Rattle.format.specs.Lists.{All, consIf, keep, numbered, run, one_to, Below, join}
+use Rattle.format.specs.Lists.{All, cons_if, keep, numbered, run, one_to, Below, join}
 use Rattle.format.specs.Table.{is_node, words}
 use Rattle.format.specs.Trits.{rank, select}
 use Rattle.format.specs.Level.{walk}
@@ -168,7 +168,7 @@ all_keep : (P : Edge → Type 0) (f : Edge → Bool) (es : List Edge) → All P 
 all_keep P f [] a = tt
 all_keep P f (e ∷ es) a = go (f e) (all_keep P f es a.1)
   where
-    go : (b : Bool) → All P (keep f es) → All P (consIf b e (keep f es))
+    go : (b : Bool) → All P (keep f es) → All P (cons_if b e (keep f es))
     go true h = (a.0, h)
     go false h = h
 

@@ -10,7 +10,7 @@ use mathlib.Core.List.{List, [], ◌∷◌, ◌++◌, map}
 use lib.Dec.{eqb, leb, ltb}
 use lib.ListN.{length, get_or, get_elem?, length-map}
 use borrow.Author.Tests.{ne_eqb, le-leb, lt-leb, lt-ltb, le-ltb}
-use Rattle.format.specs.Lists.{All, bit, consIf, numbered, node_at, count_in}
+use Rattle.format.specs.Lists.{All, bit, cons_if, numbered, node_at, count_in}
 use Rattle.format.specs.Table.{is_node}
 use Rattle.format.specs.Trits.{rank, select, Selected, nth}
 use Rattle.format.specs.Image.{node_count, root_count, group}
@@ -107,7 +107,7 @@ module _ (trits H : List ℕ) where
   twos_sort (q ∷ G) a (suc j) h = twos_sort G a.1 j (le_of_suc-le-suc h)
 
   uses_sort : (b : Bool) (r : ℕ) (G : List ℕ) → get_or trits r 0 ≡ 1 → All (λ (q : ℕ). get_or trits q 0 ≡ 2) G → (j : ℕ) → j < bit b + length G
-      → get_or (map sort_of (map (edge_at trits H) (consIf b r [] ++ G))) j 0 ≡ cond (b && eqb (suc j) 1) 1 2
+      → get_or (map sort_of (map (edge_at trits H) (cons_if b r [] ++ G))) j 0 ≡ cond (b && eqb (suc j) 1) 1 2
   unfolding edge_at
   uses_sort true r G e a zero h = e
   uses_sort true r G e a (suc j) h = twos_sort G a j (omega arith) ∙ ap (λ (t : Bool). cond t 1 2) (sym (ne_eqb (suc (suc j)) 1 (λ q. omega arith)))

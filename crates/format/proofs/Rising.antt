@@ -8,7 +8,7 @@ use mathlib.Core.Bool.{Bool, true, false}
 use mathlib.Core.List.Memᴰ
 use mathlib.Core.List.{List, [], ◌∷◌, Memᴰ}
 use lib.ListN.{length}
-use Rattle.format.specs.Lists.{run, consIf, keep, RisingFrom}
+use Rattle.format.specs.Lists.{run, cons_if, keep, RisingFrom}
 
 rising_lower : (a b : ℕ) (xs : List ℕ) → b ≤ a → RisingFrom a xs → RisingFrom b xs
 rising_lower a b [] h r = tt
@@ -55,7 +55,7 @@ rising_within a b (x ∷ xs) (y ∷ ys) rx ry w =
         (omega (arith, r.0), λ h. absurd (omega (arith, r.0)))
 
 -- what a test keeps of a rising list rises
-rising_cons_if : (b : Bool) (a x : ℕ) (xs : List ℕ) → a ≤ x → RisingFrom (suc x) xs → RisingFrom a (consIf b x xs)
+rising_cons_if : (b : Bool) (a x : ℕ) (xs : List ℕ) → a ≤ x → RisingFrom (suc x) xs → RisingFrom a (cons_if b x xs)
 rising_cons_if true a x xs h r = (h, r)
 rising_cons_if false a x xs h r = rising_lower (suc x) a xs (omega arith) r
 

@@ -11,7 +11,7 @@ use lib.Dec.{eqb, lit<}
 use lib.ListN.{length, get_or, take, drop, get_elem?, length-drop}
 use lib.Seq.{length-take-le, get_or-take, get_or-drop, ext_get_or}
 use borrow.Author.Tests.{eqb-true, eq-eqb}
-use Rattle.format.specs.Lists.{bit, run, consIf, keep, count_in, low_digits, Below}
+use Rattle.format.specs.Lists.{bit, run, cons_if, keep, count_in, low_digits, Below}
 use Rattle.format.specs.Trits.{rank, places, select, trytes, tryte_count, Selected}
 use Rattle.format.specs.Image.{last_multiple}
 use Rattle.format.proofs.Laws.{rank_add, rank_mono, rank_here, rank_count}
@@ -19,19 +19,19 @@ use Rattle.format.proofs.Digits.{gather_digit, lt_up, length_digits, digits_at}
 
 -- ---- the places of a trit
 
-pub length_cons_if : (b : Bool) (x : ℕ) (xs : List ℕ) → length (consIf b x xs) ≡ bit b + length xs
+pub length_cons_if : (b : Bool) (x : ℕ) (xs : List ℕ) → length (cons_if b x xs) ≡ bit b + length xs
 length_cons_if true x xs = sym (one-add (length xs))
 length_cons_if false x xs = sym (zero-add (length xs))
 
 -- the places where t stands in xs, which starts at place s
 abbrev pub places_from : ℕ → ℕ → List ℕ → List ℕ
 places_from s t [] = []
-places_from s t (x ∷ xs) = consIf (eqb x t) s (places_from (suc s) t xs)
+places_from s t (x ∷ xs) = cons_if (eqb x t) s (places_from (suc s) t xs)
 
 keep_places : (s t : ℕ) (xs : List ℕ) (f : ℕ → Bool) → ((q : ℕ) → f (s + q) ≡ eqb (get_or xs q 3) t) → keep f (run s (length xs)) ≡ places_from s t xs
 keep_places s t [] f h = refl
 keep_places s t (x ∷ xs) f h =
-    ap₂ (λ (b : Bool) (l : List ℕ). consIf b s l) (ap f (sym (add-zero s)) ∙ h 0)
+    ap₂ (λ (b : Bool) (l : List ℕ). cons_if b s l) (ap f (sym (add-zero s)) ∙ h 0)
     (keep_places (suc s) t xs f (λ q. ap f (suc-add s q ∙ sym (add-suc s q)) ∙ h (suc q)))
 
 pub places_from_lem : (t : ℕ) (xs : List ℕ) → places t xs ≡ places_from 0 t xs
@@ -49,15 +49,15 @@ length_places t xs = ap length (places_from_lem t xs) ∙ length_places_from 0 t
 places_from_append : (s t : ℕ) (xs ys : List ℕ) → places_from s t (xs ++ ys) ≡ places_from s t xs ++ places_from (s + length xs) t ys
 places_from_append s t [] ys = ap (λ (k : ℕ). places_from k t ys) (sym (add-zero s))
 places_from_append s t (x ∷ xs) ys =
-    ap (consIf (eqb x t) s) (places_from_append (suc s) t xs ys ∙ ap (λ (k : ℕ). places_from (suc s) t xs ++ places_from k t ys) (suc-add s (length xs) ∙ sym (add-suc s (length xs))))
+    ap (cons_if (eqb x t) s) (places_from_append (suc s) t xs ys ∙ ap (λ (k : ℕ). places_from (suc s) t xs ++ places_from k t ys) (suc-add s (length xs) ∙ sym (add-suc s (length xs))))
     ∙ go (eqb x t)
   where
-    go : (b : Bool) → consIf b s (places_from (suc s) t xs ++ places_from (s + length (x ∷ xs)) t ys) ≡ consIf b s (places_from (suc s) t xs) ++ places_from (s + length (x ∷ xs)) t ys
+    go : (b : Bool) → cons_if b s (places_from (suc s) t xs ++ places_from (s + length (x ∷ xs)) t ys) ≡ cons_if b s (places_from (suc s) t xs) ++ places_from (s + length (x ∷ xs)) t ys
     go true = refl
     go false = refl
 
 -- a place that holds t is the place of number (rank + 1)
-skip : (b : Bool) (x : ℕ) (xs : List ℕ) (r : ℕ) → get_elem? (consIf b x xs) (bit b + r) ≡ get_elem? xs r
+skip : (b : Bool) (x : ℕ) (xs : List ℕ) (r : ℕ) → get_elem? (cons_if b x xs) (bit b + r) ≡ get_elem? xs r
 skip true x xs r = ap (get_elem? (x ∷ xs)) (one-add r)
 skip false x xs r = ap (get_elem? xs) (zero-add r)
 
@@ -65,7 +65,7 @@ places_at : (s t : ℕ) (xs : List ℕ) (p : ℕ) → p < length xs → get_or x
 unfolding rank
 places_at s t [] p h e = absurd (not-suc-le-zero h)
 places_at s t (x ∷ xs) zero h e =
-    ap (λ (b : Bool). get_elem? (consIf b s (places_from (suc s) t xs)) 0) (eq-eqb x t e) ∙ ap {B = Option ℕ} some (sym (add-zero s))
+    ap (λ (b : Bool). get_elem? (cons_if b s (places_from (suc s) t xs)) 0) (eq-eqb x t e) ∙ ap {B = Option ℕ} some (sym (add-zero s))
 places_at s t (x ∷ xs) (suc p) h e =
     skip (eqb x t) s (places_from (suc s) t xs) (rank t xs p)
     ∙ places_at (suc s) t xs p (le_of_suc-le-suc h) e
@@ -94,7 +94,7 @@ places_some s t (x ∷ xs) j q e = go (λ i ei. places_some (suc s) t xs i q ei)
         }
 
     go : ((i : ℕ) → get_elem? (places_from (suc s) t xs) i ≡ some q → Holds (suc s) t xs i q)
-        → (b : Bool) → eqb x t ≡ b → (i : ℕ) → i ≡ j → get_elem? (consIf b s (places_from (suc s) t xs)) i ≡ some q → Holds s t (x ∷ xs) j q
+        → (b : Bool) → eqb x t ≡ b → (i : ℕ) → i ≡ j → get_elem? (cons_if b s (places_from (suc s) t xs)) i ≡ some q → Holds s t (x ∷ xs) j q
     go ih true eb zero ij ei =
         let sq : s ≡ q = some-injective s q ei in
         let d : q - s ≡ 0 = omega arith in

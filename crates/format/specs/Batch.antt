@@ -95,7 +95,7 @@ pub record Ran (questions buffer : List ℕ) (t : Tally) (o : BatchOutcome) : Ty
 
 -- "Order: 41, 42, 43, then 21 to 26, then the questions one by one", each out of its own three words
 pub record BatchGives (image questions buffer : List ℕ) (t : Tally) (o : BatchOutcome) : Type 0 where
-  pub not-threes : (length questions % 3 ≡ 0 → ⊥) → o ≡ batch_refused 41 buffer t
+  pub not_threes : (length questions % 3 ≡ 0 → ⊥) → o ≡ batch_refused 41 buffer t
   pub buffer_short : length questions % 3 ≡ 0 → length buffer < length questions → o ≡ batch_refused 42 buffer t
   pub tally_full : length questions % 3 ≡ 0 → length questions ≤ length buffer → (TallyRoom t (length questions / 3) → ⊥) → o ≡ batch_refused 43 buffer t
   pub improper : length questions % 3 ≡ 0 → length questions ≤ length buffer → TallyRoom t (length questions / 3) → (c : ℕ) → check_image image ≡ suc c

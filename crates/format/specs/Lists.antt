@@ -27,14 +27,14 @@ every f [] = true
 every f (x ∷ xs) = f x && every f xs
 
 -- x in front, where the test passes
-abbrev pub consIf {ℓ} : {A : Type ℓ} → Bool → A → List A → List A
-consIf true x xs = x ∷ xs
-consIf false x xs = xs
+abbrev pub cons_if {ℓ} : {A : Type ℓ} → Bool → A → List A → List A
+cons_if true x xs = x ∷ xs
+cons_if false x xs = xs
 
 -- the elements at which the test passes, in their order
 abbrev pub keep {ℓ} : {A : Type ℓ} → (A → Bool) → List A → List A
 keep f [] = []
-keep f (x ∷ xs) = consIf (f x) x (keep f xs)
+keep f (x ∷ xs) = cons_if (f x) x (keep f xs)
 
 -- lists, one after the other
 abbrev pub join {ℓ} : {A : Type ℓ} → List (List A) → List A

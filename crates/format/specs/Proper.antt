@@ -56,8 +56,8 @@ rest_of size b = drop size (drop 4 b)
 
 -- one section at the front of b: count missing (21), count wrong, contents missing (21), contents wrong
 unfoldable pub section_fault : ℕ → ℕ → ℕ → List ℕ → ℕ
-section_fault countFault size contentsFault b =
-    fault 21 (leb 4 (length b)) then countFault then fault 21 (leb size (length (drop 4 b))) then contentsFault
+section_fault count_fault size contents_fault b =
+    fault 21 (leb 4 (length b)) then count_fault then fault 21 (leb size (length (drop 4 b))) then contents_fault
 
 -- the trits of an image, and what follows section 1
 abbrev pub size1 : List ℕ → ℕ
@@ -144,9 +144,9 @@ pub record Contents1Gives (L : ℕ) (bs : List ℕ) : Type 0 where
   pub limit_passed : OwnRules L bs → (limits (untrytes L bs) ≡ true → ⊥) → contents_fault1 L bs ≡ 22
 
 -- what one section at the front of b gives: its count is missing, wrong, or right; its contents are missing, or there
-pub record SectionGives (given : ℕ) (b : List ℕ) (RightCount : Type 0) (wrongCount size contents : ℕ) : Type 0 where
+pub record SectionGives (given : ℕ) (b : List ℕ) (RightCount : Type 0) (wrong_count size contents : ℕ) : Type 0 where
   pub count_missing : length b < 4 → given ≡ 21
-  pub count_wrong : 4 ≤ length b → (RightCount → ⊥) → given ≡ wrongCount
+  pub count_wrong : 4 ≤ length b → (RightCount → ⊥) → given ≡ wrong_count
   pub contents_missing : 4 ≤ length b → RightCount → length (drop 4 b) < size → given ≡ 21
   pub contents_there : 4 ≤ length b → RightCount → size ≤ length (drop 4 b) → given ≡ contents
 

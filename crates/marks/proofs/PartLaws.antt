@@ -7,7 +7,7 @@ use mathlib.Core.Bool.{Bool, true, false}
 use mathlib.Core.List.{List, [], ◌∷◌, ◌++◌, append-nil, append_assoc, map-append}
 use lib.ListN.{length, take, drop, length-append, length-take, take-append-drop}
 use lib.Seq.{take_at, take_all, length-take-le}
-use Rattle.format.specs.Lists.{bit, each, consIf}
+use Rattle.format.specs.Lists.{bit, each, cons_if}
 use Rattle.format.specs.Image.{le_bytes, bytes}
 use Rattle.format.proofs.Laws.{run_add}
 use Rattle.format.proofs.Sizes.{length_bytes}
@@ -21,7 +21,7 @@ module _ (k at : ℕ) (done out : List ℕ) (held : take at out ≡ bytes k done
 
   -- a number is put there, and stays if the place moves on
   pub put_if : (b : Bool) (x : ℕ) {out' : List ℕ} → out' ≡ put_at out at (le_bytes k x) → at + k ≤ length out
-      → take (at + k * bit b) out' ≡ bytes k (done ++ consIf b x [])
+      → take (at + k * bit b) out' ≡ bytes k (done ++ cons_if b x [])
   put_if true x e room =
       let l : out ≡ [] ++ bytes k done ++ drop at out = rw (← held) (sym (take-append-drop at out)) in
       let p : at ≡ k * length done = place_next (omega arith) in

@@ -9,7 +9,7 @@ use lib.Dec.{T, eqb, eqb_refl}
 use lib.ListN.{length, get_or, take, drop, length-append, take-append-drop}
 use lib.Seq.{drop-drop, drop_at, take_at, take-append-le, take-take, length-take-le}
 use Rattle.format.specs.Lists.{over, up, count_in}
-use Rattle.format.specs.Table.{Graph, nodes}
+use Rattle.format.specs.Table.{Graph}
 use Rattle.format.specs.Level.{walk, level_order, reached, Counts}
 use Rattle.format.specs.Trits.{trytes}
 use Rattle.format.specs.Image.{le_bytes, bytes, node_count, marked_nodes, Section, section1, section2, section3, section4, section5, section6, section7, section8, section9, given, written, image, sizes}

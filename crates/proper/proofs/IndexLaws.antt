@@ -11,7 +11,7 @@ use lib.ListN.{length, get_or, drop, length-append, length-drop, drop_of_length-
 use lib.Seq.{drop-cons, get_or-drop, drop-drop}
 use borrow.Author.Count.{below_none, below_more}
 use borrow.Author.Tests.{eqb-true, eq-eqb, le-leb, lt-ltb, le-ltb}
-use Rattle.format.specs.Lists.{run, consIf, keep, join, same, Below}
+use Rattle.format.specs.Lists.{run, cons_if, keep, join, same, Below}
 use Rattle.format.specs.Image.{bytes, node_count, shadow_at, marked, marked_nodes, group, grouped, starts, read}
 use Rattle.format.specs.Trits.{places}
 use Rattle.format.specs.Proper.{ProperTrits}
@@ -45,7 +45,7 @@ same_nodes T T' e e' = ap node_count (sym (trits_are T e) ∙ trits_are T' e')
 -- the indices, from e on, of the places whose node is above the node before, v; then how many places there are
 abbrev pub firsts : (ℕ → ℕ) → ℕ → ℕ → List ℕ → List ℕ
 firsts node e v [] = e ∷ []
-firsts node e v (p ∷ ps) = consIf (ltb v (node p)) e (firsts node (suc e) (node p) ps)
+firsts node e v (p ∷ ps) = cons_if (ltb v (node p)) e (firsts node (suc e) (node p) ps)
 
 -- places of the node before have none
 firsts_same : (node : ℕ → ℕ) (e v : ℕ) (xs ys : List ℕ) → Each (λ p. node p ≡ v) xs → firsts node e v (xs ++ ys) ≡ firsts node (e + length xs) v ys
@@ -69,7 +69,7 @@ module _ (node : ℕ → ℕ) (f : ℕ → List ℕ) (m : ℕ → Bool) (g : ℕ
 
       go : (xs : List ℕ) → Each (λ p. node p ≡ suc a) xs → g (suc a) ≡ g a + length xs → m (suc a) ≡ ltb 0 (length xs)
           → ((w : ℕ) → w ≤ suc a → firsts node (g (suc a)) w (join (map f rest)) ≡ map (λ i. g (i - 1)) (keep m rest) ++ (g (suc a + n) ∷ []))
-          → firsts node (g a) v (xs ++ join (map f rest)) ≡ map (λ i. g (i - 1)) (consIf (m (suc a)) (suc a) (keep m rest)) ++ (g (a + suc n) ∷ [])
+          → firsts node (g a) v (xs ++ join (map f rest)) ≡ map (λ i. g (i - 1)) (cons_if (m (suc a)) (suc a) (keep m rest)) ++ (g (a + suc n) ∷ [])
       go [] h e s on = let k : g a ≡ g (suc a) = omega arith in rw (s, k, ← end) (on v (omega arith))
       go (p ∷ xs) h e s on =
           let k : suc (g a) + length xs ≡ g (suc a) = omega arith in
@@ -90,7 +90,7 @@ each_key : (f : ℕ → ℕ) (i : ℕ) (xs : List ℕ) → Each (λ p. f p ≡ i
 each_key f i [] = λ j l. absurd (omega arith)
 each_key f i (x ∷ xs) = go (eqb (f x) i) refl (each_key f i xs)
   where
-    go : (b : Bool) → eqb (f x) i ≡ b → Each (λ p. f p ≡ i) (keep (λ p. eqb (f p) i) xs) → Each (λ p. f p ≡ i) (consIf b x (keep (λ p. eqb (f p) i) xs))
+    go : (b : Bool) → eqb (f x) i ≡ b → Each (λ p. f p ≡ i) (keep (λ p. eqb (f p) i) xs) → Each (λ p. f p ≡ i) (cons_if b x (keep (λ p. eqb (f p) i) xs))
     go true e h zero l = eqb-true (f x) i e
     go true e h (suc j) l = h j (omega arith)
     go false e h j l = h j l
@@ -167,7 +167,7 @@ module _ {trits H numbers part : List ℕ} {e low j : ℕ} (I : Indexed trits H 
     abbrev rest : List ℕ
     rest = firsts (shadow_at trits H) (e + 1) ((k + 1) / 131072) (drop (e + 1) G)
 
-    goes_on : Right5 trits H part → drop j S ≡ consIf (ltb (low / 131072) (k / 131072)) e rest
+    goes_on : Right5 trits H part → drop j S ≡ cons_if (ltb (low / 131072) (k / 131072)) e rest
     unfolding key
     goes_on s =
         let w : shadow_at trits H (entries part e) ≡ shadow_at trits H (get_or G e 0) = ap (shadow_at trits H) (number_in_lem 4 G s (fits5 trits H P.length_high) e (omega (arith, many P))) in

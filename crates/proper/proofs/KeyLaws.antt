@@ -11,7 +11,7 @@ use lib.Dec.{eqb, lit<}
 use lib.ListN.{length, get_or, length-map, get_or-map}
 use borrow.Author.Count.{below_none, below_more}
 use borrow.Author.Tests.{eqb-true, eq-eqb}
-use Rattle.format.specs.Lists.{run, each, consIf, keep, join, same, Below, RisingFrom}
+use Rattle.format.specs.Lists.{run, each, cons_if, keep, join, same, Below, RisingFrom}
 use Rattle.format.specs.Trits.{rank, places}
 use Rattle.format.specs.Image.{bytes, node_count, shadow_at, group, grouped, read}
 use Rattle.format.specs.Proper.{ProperTrits}
@@ -59,10 +59,10 @@ rising_run f (suc n) s a h k = (h (omega arith), rising_run f n (suc s) (suc (f 
 
 mem_keep : (t : ℕ → Bool) {x : ℕ} (xs : List ℕ) → t x ≡ true → Memᴰ x xs → Memᴰ x (keep t xs)
 mem_keep t {x} [] e m = elim m [ ]
-mem_keep t {x} (y ∷ xs) e (Memᴰ.head q) = subst (λ (b : Bool). Memᴰ x (consIf b y (keep t xs))) (sym e ∙ ap t q) (Memᴰ.head q)
+mem_keep t {x} (y ∷ xs) e (Memᴰ.head q) = subst (λ (b : Bool). Memᴰ x (cons_if b y (keep t xs))) (sym e ∙ ap t q) (Memᴰ.head q)
 mem_keep t {x} (y ∷ xs) e (Memᴰ.tail m) = go (t y) (mem_keep t xs e m)
   where
-    go : (b : Bool) → Memᴰ x (keep t xs) → Memᴰ x (consIf b y (keep t xs))
+    go : (b : Bool) → Memᴰ x (keep t xs) → Memᴰ x (cons_if b y (keep t xs))
     go true k = Memᴰ.tail k
     go false k = k
 
@@ -86,7 +86,7 @@ module _ (trits H : List ℕ) where
   keys_run i t h (suc n) a l = go (t a) refl (keys_run i t h n (suc a) (omega arith))
     where
       go : (b : Bool) → t a ≡ b → Between (131072 * i + suc a) (131072 * suc i) (map (key trits H) (keep t (run (suc a) n)))
-          → Between (131072 * i + a) (131072 * suc i) (map (key trits H) (consIf b a (keep t (run (suc a) n))))
+          → Between (131072 * i + a) (131072 * suc i) (map (key trits H) (cons_if b a (keep t (run (suc a) n))))
       go true e m =
           let k : 131072 * i + suc a ≡ suc (131072 * shadow_at trits H a + a) = omega (arith, h a e) in
           (omega (arith, h a e), subst (λ (b : ℕ). Between b (131072 * suc i) (map (key trits H) (keep t (run (suc a) n)))) k m)

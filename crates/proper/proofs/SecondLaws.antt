@@ -9,7 +9,7 @@ use lib.Dec.{eqb, lit<}
 use lib.ListN.{length, get_or, drop, drop_of_length-le}
 use lib.Seq.{drop-cons}
 use borrow.Author.Tests.{eqb-true}
-use Rattle.format.specs.Lists.{bit, every, consIf, count_in}
+use Rattle.format.specs.Lists.{bit, every, cons_if, count_in}
 use Rattle.format.specs.Trits.{rank, untrytes}
 use Rattle.format.specs.Image.{from_bytes, shadow_at, read}
 use Rattle.format.specs.Table.{is_node}
@@ -83,7 +83,7 @@ module _ {trits hs : List ℕ} {p ones twos : ℕ} (s : Seeing trits hs p ones t
       step : shadows_seen trits (from_bytes 2 hs) ≡ (r && rest trits hs (p + 1))
       step = rw (add-one, s.left, drop-cons trits p 0, holds, test) (go (eqb x 2) refl)
         where
-          go : (b : Bool) → eqb x 2 ≡ b → every (right trits hs) (consIf b p (places_from (suc p) 2 (drop (suc p) trits)))
+          go : (b : Bool) → eqb x 2 ≡ b → every (right trits hs) (cons_if b p (places_from (suc p) 2 (drop (suc p) trits)))
               ≡ (cond b (is_node ones (read 2 (2 * twos) hs)) true && rest trits hs (suc p))
           go true e = ap (λ (b : Bool). b && rest trits hs (suc p)) (right_is (eqb-true x 2 e))
           go false e = refl

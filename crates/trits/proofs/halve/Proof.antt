@@ -23,7 +23,7 @@ loop-holds : tie.Need-loop-len-init invariant-loop decreases-loop
 loop-holds c =
     let x = c.before.before in
     elim c.if-room-len.branch [
-      then-room-len w ↦ rw w.len-is (starts_cut x.args.above x.requires.0 x.requires.2 w.if-room-len.true)
+      | then-room-len w ↦ rw w.len-is (starts_cut x.args.above x.requires.0 x.requires.2 w.if-room-len.true)
       | else-room-len w ↦ rw w.len-is (starts_whole x.args.above x.requires.0 x.requires.2 w.if-room-len.false)
     ]
 

@@ -10,8 +10,8 @@ use Rattle.asking.specs.BatchSteps.{Roomy}
 use Rattle.asking.proofs.batch.batch.Statement.{statement}
 use Rattle.asking.proofs.batch.batch.Tie as tie
 
-not-threes : tie.Need-returns-then-words-ne0
-not-threes c =
+not_threes : tie.Need-returns-then-words-ne0
+not_threes c =
     let x = c.args in
     batch_41 x.image.now x.questions.now x.answers.now x.tally (λ e. omega (arith, c.if-words-ne0.true))
 
@@ -33,7 +33,7 @@ full c =
 
 pub batch_spec : {M : Type 1} → statement M
 batch_spec =
-    tie.close (tie.spec not-threes
+    tie.close (tie.spec not_threes
     too_short
     (λ c κs. search rules)
     run-requires

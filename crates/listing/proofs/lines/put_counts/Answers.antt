@@ -1,6 +1,5 @@
 -- The counts of the graph, the counts of the image, and the end of the line.
-use Rattle.std.proofs.Common.{arith, refl, ℕ, get_or}
-use Rattle.trits.specs.Layout.{Laid}
+use Rattle.std.proofs.Common.{arith, refl}
 use Rattle.trits.proofs.Levels.{accepted}
 use Rattle.listing.proofs.TextLaws.{fits, next, finish}
 use Rattle.listing.proofs.LineLaws.{counts_small, edges_are, begin_counts}
