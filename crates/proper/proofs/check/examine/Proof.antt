@@ -38,18 +38,14 @@ returns-2 c =
     let b = image c.before in
     refused_1 b ImageTooLarge ((checker_gives b).too_large (omega (arith, c.if-image-lt4.false)) (omega (arith, count c.before, c.if-l-gt-MAX_TRITS.true)))
 
-returns-3 : tie.Need-returns-then-l-eq0
-returns-3 c = let g = c.before.before in
-    refused_1 _ TritsWrong ((first g (omega (arith, c.if-l-gt-MAX_TRITS.false))).count_wrong (omega (arith, c.if-image-lt4.false)) (λ h. omega (arith, count g, c.if-l-eq0.true)))
-
 -- the count of section 1 is right, and its contents are there
-right : (c : tie.After-get4-l) → (c.get4-l.result ≡ 0 → ⊥) → 1 ≤ count_of (image c)
+right : (c : tie.After-get4-l) → 1 ≤ c.get4-l.result → 1 ≤ count_of (image c)
 right c h = omega (arith, count c, h)
 
 returns-4 : tie.Need-returns-then-image-size
 returns-4 c = let g = c.before.before.before in
     let b = image g in
-    refused_1 b ImageEnds ((first g (omega (arith, c.if-l-gt-MAX_TRITS.false))).contents_missing (omega (arith, c.if-image-lt4.false)) (right g c.if-l-eq0.false) (omega (arith, length-drop 4 b, count g, c.if-image-size.true)))
+    refused_1 b ImageEnds ((first g (omega (arith, c.if-l-gt-MAX_TRITS.false))).contents_missing (omega (arith, c.if-image-lt4.false)) (right g (omega arith)) (omega (arith, length-drop 4 b, count g, c.if-image-size.true)))
 
 -- the bytes of section 1, as the definition cuts them
 bytes_are : (c : tie.After-contents-bs) → let b = image c.before.before.before.before in c.contents-bs.result.now ≡ contents_of (size1 b) b
@@ -58,18 +54,18 @@ bytes_are c = let g = c.before.before.before.before in c.contents-bs.ensures.0 �
 there : (c : tie.After-contents-bs) → fault1 (image c.before.before.before.before) ≡ contents_fault1 c.get4-l.result c.contents-bs.result.now
 there c = let g = c.before.before.before.before in
     let b = image g in
-    (first g (omega (arith, c.if-l-gt-MAX_TRITS.false))).contents_there (omega (arith, c.if-image-lt4.false)) (right g c.if-l-eq0.false)
+    (first g (omega (arith, c.if-l-gt-MAX_TRITS.false))).contents_there (omega (arith, c.if-image-lt4.false)) (right g (omega arith))
     (omega (arith, length-drop 4 b, count g, c.if-image-size.false))
     ∙ (λ i. contents_fault1 (sym (count g) i) (sym (bytes_are c) i))
 
 section1-requires : tie.Need-section1-requires
-section1-requires c κs = (c.contents-bs.ensures.1, omega (arith, c.if-l-eq0.false), omega (arith, c.if-l-gt-MAX_TRITS.false))
+section1-requires c κs = (c.contents-bs.ensures.1, omega arith, omega (arith, c.if-l-gt-MAX_TRITS.false))
 
 -- section 1 has passed
 passed : (c : tie.In-Sizes) → let k = c.in-Sizes in FirstPassed c.contents-bs.result.now c.get4-l.result k.nodes k.roots k.shadows
 passed c =
     let z = subst (FirstSays _ _) c.in-Sizes.is c.section1.ensures in
-    first_passed_is (omega (arith, c.if-l-eq0.false)) (omega (arith, c.if-l-gt-MAX_TRITS.false)) c.contents-bs.ensures.1 z
+    first_passed_is (omega arith) (omega (arith, c.if-l-gt-MAX_TRITS.false)) c.contents-bs.ensures.1 z
 
 returns-5 : tie.Need-returns-in-Wrong
 returns-5 c =
@@ -90,7 +86,8 @@ examine_spec =
     tie.close (tie.spec returns
     (λ c κs. search rules)
     returns-2
-    returns-3
+    (λ c. let g = c.before.before in
+    refused_1 _ TritsWrong ((first g (omega (arith, c.if-l-gt-MAX_TRITS.false))).count_wrong (omega (arith, c.if-image-lt4.false)) (λ h. omega (arith, count g))))
     (λ c. search rules)
     (λ c. search rules)
     returns-4

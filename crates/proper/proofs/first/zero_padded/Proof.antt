@@ -23,16 +23,11 @@ loop-holds : tie.Need-loop-p-init invariant-loop decreases-loop
 unfolding padded
 loop-holds c = (omega arith, length_spread 3 5 c.args.bs.now, refl)
 
-returns : tie.Need-returns-then-t-ne0 invariant-loop decreases-loop
-returns c =
-    let ts = spread 3 5 c.args.bs.now in
-    sym (c.loop-p.invariant.2 ∙ every_stop (eqb 0) ts c.loop-p.p (omega arith) (ne_eqb 0 (get_or ts c.loop-p.p 0) (λ e. omega (arith, c.if-t-ne0.true, c.trit-t.ensures.0, e))))
-
 loop-again : tie.Need-loop-p-preserved invariant-loop decreases-loop
 loop-again c =
     let ts = spread 3 5 c.args.bs.now in
     let t = c.trit-t.ensures.0 in
-    (omega arith, c.loop-p.invariant.1, c.loop-p.invariant.2 ∙ every_more (eqb 0) ts c.loop-p.p (omega arith) (eq-eqb 0 (get_or ts c.loop-p.p 0) (omega (arith, c.if-t-ne0.false, t))))
+    (omega arith, c.loop-p.invariant.1, c.loop-p.invariant.2 ∙ every_more (eqb 0) ts c.loop-p.p (omega arith) (eq-eqb 0 (get_or ts c.loop-p.p 0) (omega (arith, t))))
 
 returns-2 : tie.Need-returns invariant-loop decreases-loop
 returns-2 c =
@@ -45,7 +40,9 @@ zero_padded_spec =
     (λ c. search rules)
     loop-holds
     (λ c κs. search rules)
-    returns
+    (λ c.
+    let ts = spread 3 5 c.args.bs.now in
+    sym (c.loop-p.invariant.2 ∙ every_stop (eqb 0) ts c.loop-p.p (omega arith) (ne_eqb 0 (get_or ts c.loop-p.p 0) (λ e. omega (arith, c.trit-t.ensures.0, e)))))
     (λ c. search rules)
     (λ c. search rules)
     loop-again
