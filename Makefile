@@ -2,18 +2,18 @@
 .PHONY: all library command list figures test
 
 # The prover writes much: it goes to a log, of which the end is shown where it fails.
-PROVE = @mkdir -p target; echo "$(1): proving, minutes the first time; its log is target/make.log"; $(1) > target/make.log 2>&1 || { tail -n 30 target/make.log; exit 1; }
+PROVE = @mkdir -p target; echo "$(1): proving, minutes the first time; its log is target/make.log"; ($(1)) > target/make.log 2>&1 || { tail -n 30 target/make.log; exit 1; }
 CARGO = --offline --quiet --release --manifest-path rust/Cargo.toml --features pack,check,unpack,ask
 
 all: library list
 	cargo run $(CARGO) --bin drawn
-	target/bin/list < crates/list/stdin
+	crates/list/out/list < crates/list/stdin
 
 library:
-	$(call PROVE,rt staticlib glouds)
+	$(call PROVE,cd crates/glouds && rt lib)
 
 list:
-	$(call PROVE,rt check list)
+	$(call PROVE,cd crates/list && rt run < stdin)
 
 command: library
 	cargo build $(CARGO) --bin glouds

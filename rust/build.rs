@@ -1,5 +1,5 @@
 //! Where a feature calls for it, links libglouds.a from the folder named by GLOUDS_LIB_DIR, or else from
-//! ../target/staticlib; a relative folder is taken from this package.
+//! ../crates/glouds/out; a relative folder is taken from this package.
 
 use std::env;
 use std::path::PathBuf;
@@ -13,7 +13,7 @@ fn main() {
         return;
     }
     let package = PathBuf::from(env::var_os("CARGO_MANIFEST_DIR").expect("run by cargo"));
-    let named = env::var_os("GLOUDS_LIB_DIR").unwrap_or_else(|| "../target/staticlib".into());
+    let named = env::var_os("GLOUDS_LIB_DIR").unwrap_or_else(|| "../crates/glouds/out".into());
     let folder = package.join(named);
     println!("cargo:rerun-if-env-changed=GLOUDS_LIB_DIR");
     println!(

@@ -8,11 +8,11 @@ use std::io::Write;
 use std::path::PathBuf;
 use std::process::{Command, Stdio};
 
-/// Where `rt check list` puts the program; GLOUDS_LIST names another.
+/// Where `rt run` puts the program; GLOUDS_LIST names another.
 fn program() -> PathBuf {
     match std::env::var_os("GLOUDS_LIST") {
         Some(path) => path.into(),
-        None => PathBuf::from(env!("CARGO_MANIFEST_DIR")).join("../target/bin/list"),
+        None => PathBuf::from(env!("CARGO_MANIFEST_DIR")).join("../crates/list/out/list"),
     }
 }
 
@@ -24,7 +24,7 @@ fn list(input: &[u8], piece: usize) -> Vec<u8> {
         .stdout(Stdio::piped())
         .stderr(Stdio::piped())
         .spawn()
-        .unwrap_or_else(|error| panic!("{}: {error}; `rt check list` makes it", path.display()));
+        .unwrap_or_else(|error| panic!("{}: {error}; `rt run` in crates/list makes it", path.display()));
     let mut stdin = child.stdin.take().unwrap();
     for bytes in input.chunks(piece) {
         // It stops reading at its limit, and a pipe to nobody is an error.
