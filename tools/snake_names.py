@@ -4,20 +4,32 @@
 usage: tools/snake_names.py            at the top of the repository, once, after the toolchain's port.py
 
 A name that is declared in specs/, or in proofs/ and is no goal of the check's, gets its capitals and dashes turned to underscores, wherever it
-stands in crates/ (sources, must-fail edits) and, between backquotes, in README.md, docs/ and comments. Names that begin with a capital are types, facts and modules and stay. Names that the
-library has too stay, and where two names would fall together the one of KEPT stays as it was.
+stands in crates/ (sources, must-fail edits) and, between backquotes, in README.md, docs/ and comments. Edits and papers get the names that port.py
+turned, too. Names that begin with a capital are types, facts and modules and stay; so do names that the library has. A lemma whose new name a
+definition has gets `_lem`, and a few names are given one by hand.
 """
 
 import os
 import re
 import sys
 
-# Names that fall together without harm: the other one is a lemma that only its own file sees, or a field.
-APART = {"bothRight", "bytesLow"}
+# Names that the rule turns badly, or to the name of something else.
+GIVEN = {"image-length": "image_length", "roots-first": "roots_are_first", "size-of": "size_is", "all_get_d": "all_get_or"}
+
+# A field and a definition of one name, which no file can mistake for one another.
+APART = {"image_length"}
+
+# Lemmas to which port.py gave what is now a definition's name, each with the module that declares it.
+LEMMAS = [
+    ("both_right", "Rattle.format.proofs.Laws"),
+    ("bytes_low", "Rattle.format.proofs.Widths"),
+    ("place_of", "Rattle.format.proofs.Select"),
+    ("word_at", "Rattle.listing.proofs.TableLaws"),
+]
 
 WORD = r"[^\s(){}\[\],;.`]"
 DECLARED = re.compile(r"^\s*((?:pub |abbrev |unfoldable )*)([^\s:(){}]+(?: [^\s:(){}]+)*)(?: \{ℓ\})? :(?: |$)")
-MADE = re.compile(r"(-spec|-requires|(?<!unpacked)-again|-preserved|-init|-smaller)(-\d+)?$|^(returns|loop|invariant|decreases|overflow|ghost)(-|$)|^\+")
+MADE = re.compile(r"(-spec|-requires|-preserved|-init|-smaller)(-\d+)?$|^(returns|loop|invariant|decreases|overflow|ghost)(-|$)|^\+")
 
 
 # variables that stand in an edit or a statement, and a field that a proof names a goal by
@@ -60,15 +72,29 @@ def own_names(root):
     return names, library, made
 
 
+def name_lemmas(root):
+    for name, module in LEMMAS:
+        _, crate, _, file = module.split(".")
+        word = re.compile(r"(?<![\w'.-])" + name + r"(?![\w'-])")
+        for path in files(os.path.join(root, "crates"), (".antt",)):
+            text = open(path, encoding="utf-8").read()
+            declares = path.endswith(os.path.join("crates", crate, "proofs", file + ".antt"))
+            imports = re.search(r"(?m)^use " + re.escape(module) + r"\.\{[^}]*(?<![\w'-])" + name + r"(?![\w'-])", text)
+            if declares or imports:
+                open(path, "w", encoding="utf-8").write(word.sub(name + "_lem", text))
+
+
 def main():
     root = "."
+    if "--dry" not in sys.argv:
+        name_lemmas(root)
     names, library, made = own_names(root)
     turned = {}
     for name in sorted(names):
         if name[0].isupper() or name in library or (name in made and name not in LOCAL) or "◌" in name:
             continue
-        new = snake(name)
-        if "-" in name and (new in names or any(snake(n) == new for n in names if n != name and "-" not in n)):
+        new = GIVEN.get(name, snake(name))
+        if name not in GIVEN and "-" in name and (new in names or any(snake(n) == new for n in names if n != name and "-" not in n)):
             new += "_lem"
         if new != name:
             turned[name] = new
@@ -77,7 +103,7 @@ def main():
         taken.setdefault(new, []).append(old)
     clash = False
     for new, olds in sorted(taken.items()):
-        if (new in names and not APART & set(olds)) or new in library or len(olds) > 1:
+        if new not in APART and (new in names or new in library or len(olds) > 1):
             print("falls together:", new, "from", *olds, "(taken)" if new in names else "", "(library)" if new in library else "")
             clash = True
     if clash or "--dry" in sys.argv:

@@ -16,7 +16,7 @@ use Rattle.format.specs.Proper.{trits_of, shadows_of, ProperTrits}
 use Rattle.format.specs.Edges.{Edge, operand_at, edge_at, use_edges}
 use Rattle.format.specs.Question.{Reply, refused, plain, says, operand_or33, user_or33, answer, select_answer, operand_count, operand_answer, use_count, use_answer}
 use Rattle.format.proofs.Laws.{rank_mono, rank_here, rank_count, rank_three}
-use Rattle.format.proofs.Select.{select_found, place_of, place_rank, length_places}
+use Rattle.format.proofs.Select.{select_found, place_of_lem, place_rank, length_places}
 use Rattle.format.proofs.Sizes.{grouped_suc, length_grouped}
 use Rattle.format.proofs.ImageReads.{Each, each_append, each_kept}
 use Rattle.format.proofs.CheckLaws.{limits_nodes, shadow_nodes}
@@ -87,7 +87,7 @@ module _ {trits H : List ℕ} (p : ProperTrits trits H) where
       rw grouped_suc
       (each_append Two (grouped trits H j) (group trits H (suc j)) (grouped_twos j)
       (each_kept Two (λ q. eqb (shadow_at trits H q) (suc j)) (places 2 trits)
-      (λ i l. let s = place_of 2 trits i (omega (arith, length_places 2 trits)) in (s.inside, s.holds))))
+      (λ i l. let s = place_of_lem 2 trits i (omega (arith, length_places 2 trits)) in (s.inside, s.holds))))
 
   pub place_two : {j q : ℕ} → j < length H → q ≡ get_or (grouped trits H (node_count trits)) j 0 → Two q
   place_two {j} l e =

@@ -20,7 +20,7 @@ use Rattle.format.proofs.Cutting.{scanned}
 use Rattle.format.specs.Packing.{image_of, Accepted}
 use Rattle.format.proofs.Laws.{length_run, true_both, both_true, get_or_other, at_every, node_is_node}
 use Rattle.format.proofs.ImageReads.{Each}
-use Rattle.format.proofs.Select.{place_of, length_places}
+use Rattle.format.proofs.Select.{place_of_lem, length_places}
 use Rattle.format.proofs.CheckLaws.{shadow_seen}
 use Rattle.format.proofs.ProperLaws.{zeros_ones, last_zero_lem, proper_seen, grown_walk, walk_grown}
 use Rattle.format.proofs.Order.{Packable, counts, fits_length}
@@ -104,7 +104,7 @@ proper_of_scan ts hs s few n m =
       threes = all_each (λ x. x < 3) ts r.small;
       length_low = omega arith;
       length_high = few;
-      roots_first_lem = eq-eqb (count_in 2 (until_zero ts)) 0 (front_no_two 0 ts hs s.stands);
+      roots_are_first = eq-eqb (count_in 2 (until_zero ts)) 0 (front_no_two 0 ts hs s.stands);
       is_balanced = true_both (eqb (count_in 1 ts + 1) (count_in 0 ts)) (eqb (get_or ts (length ts - 1) 3) 0)
           (eq-eqb (count_in 1 ts + 1) (count_in 0 ts) (omega (arith, r.balance)))
           (eq-eqb (get_or ts (length ts - 1) 3) 0 (get_or_other ts (length ts - 1) 3 0 (omega arith) ∙ ap (λ (k : ℕ). get_or ts k 0) (omega arith) ∙ c.holds));
@@ -113,7 +113,7 @@ proper_of_scan ts hs s few n m =
       paired = r.entries;
       seen = at_every (λ p. is_node (rank 1 ts p) (shadow_at ts hs p)) 0 (places 2 ts)
           (λ j l.
-          let s = place_of 2 ts j (omega (arith, length_places 2 ts)) in
+          let s = place_of_lem 2 ts j (omega (arith, length_places 2 ts)) in
           let p : ℕ = get_or (places 2 ts) j 0 in
           node_is_node (rank 1 ts p) (shadow_at ts hs p) (r.earlier (take p ts) (drop (suc p) ts) (cut_here ts p 2 s.inside s.holds)));
     }

@@ -19,7 +19,7 @@ use Rattle.format.specs.Table.{Node, is_node, AllNodes}
 use Rattle.format.proofs.Laws.{both_true, at_every, every_at, same_eq, same_refl, count_le, length_run, length_keep, rank_count, rank_here, is_node_node}
 use Rattle.format.proofs.Digits.{horner_digits, horner_lt, digits_horner, below_take, below_drop, length_gather, length_spread, gather_at, gather_spread, spread_gather, spread_gather_at, spread_gather_whole, gather_pad, below_spread, length_block, below_block, up_mul, le_up}
 use Rattle.format.proofs.Sizes.{length_trytes, length_bytes}
-use Rattle.format.proofs.Select.{place_of, length_places, place_rank}
+use Rattle.format.proofs.Select.{place_of_lem, length_places, place_rank}
 use Rattle.format.proofs.FaultLaws.{then_yes, then_zero, fault_zero, fault_yes, then_no, fault_no}
 
 -- ---- one section
@@ -160,7 +160,7 @@ pub shadow_nodes : (trits H : List ℕ) → length H ≡ count_in 2 trits → sh
 unfolding node_count shadow_at
 shadow_nodes trits H k e j h =
     let p : ℕ = get_or (places 2 trits) j 0 in
-    let s = place_of 2 trits j (omega arith) in
+    let s = place_of_lem 2 trits j (omega arith) in
     let n : Node (rank 1 trits p) (get_or H (rank 2 trits p) 0) = shadow_seen trits H e p s.inside s.holds in
     subst (λ (i : ℕ). Node (count_in 1 trits) (get_or H i 0)) (suc_inj s.ranked) (n.0, le_trans n.1 (rank_count 1 trits p))
 
@@ -187,9 +187,9 @@ contents_1_gives L bs =
     let pass : (b : Bool) (x : ℕ) → b ≡ true → (fault 23 b then x) ≡ x = λ b x e. then_yes (fault 23 b) x (fault_yes 23 b e) in
     record {
       rule_broken = λ h. one_of_five (bytes_low bs) (padded L bs) (roots_first t) (balanced t) (grown t) (fault 22 (limits t))
-          (λ r. h (record { is_low = r.0; is_padded = r.1; roots_first_lem = r.2; is_balanced = r.3; is_grown = r.4 }));
+          (λ r. h (record { is_low = r.0; is_padded = r.1; roots_are_first = r.2; is_balanced = r.3; is_grown = r.4 }));
       limit_passed = λ r h.
-          pass (bytes_low bs) _ r.is_low ∙ pass (padded L bs) _ r.is_padded ∙ pass (roots_first t) _ r.roots_first_lem ∙ pass (balanced t) _ r.is_balanced
+          pass (bytes_low bs) _ r.is_low ∙ pass (padded L bs) _ r.is_padded ∙ pass (roots_first t) _ r.roots_are_first ∙ pass (balanced t) _ r.is_balanced
           ∙ pass (grown t) _ r.is_grown ∙ fault_no 22 (limits t) h;
     }
 
@@ -225,7 +225,7 @@ sound1 trits H p =
     ap (λ (t : List ℕ). fault 23 (bytes_low (trytes trits)) then fault 23 (padded (length trits) (trytes trits)) then fault 23 (roots_first t) then fault 23 (balanced t)
     then fault 23 (grown t) then fault 22 (limits t)) (untrytes_trytes trits p.threes)
     ∙ then_yes _ _ (fault_yes 23 _ (trytes_low trits p.threes)) ∙ then_yes _ _ (fault_yes 23 _ (trytes_padded trits p.threes))
-    ∙ then_yes _ _ (fault_yes 23 _ p.roots_first_lem) ∙ then_yes _ _ (fault_yes 23 _ p.is_balanced) ∙ then_yes _ _ (fault_yes 23 _ p.is_grown)
+    ∙ then_yes _ _ (fault_yes 23 _ p.roots_are_first) ∙ then_yes _ _ (fault_yes 23 _ p.is_balanced) ∙ then_yes _ _ (fault_yes 23 _ p.is_grown)
     ∙ fault_yes 22 _ p.in_limits
 
 -- ---- section 2
@@ -388,7 +388,7 @@ image_passed b low e =
         threes = trits_untrytes L bs;
         length_low = subst (λ (x : ℕ). 1 ≤ x) (sym lL) (leb-true 1 L (fault_zero 23 (leb 1 L) (lit< tt) c1.1));
         length_high = subst (λ (x : ℕ). x ≤ 125536) (sym lL) (leb-true L 125536 (fault_zero 22 (leb L 125536) (lit< tt) c1.0));
-        roots_first_lem = fault_zero 23 _ (lit< tt) s3.0;
+        roots_are_first = fault_zero 23 _ (lit< tt) s3.0;
         is_balanced = fault_zero 23 _ (lit< tt) s4.0;
         is_grown = fault_zero 23 _ (lit< tt) s5.0;
         in_limits = fault_zero 22 _ (lit< tt) s5.1;

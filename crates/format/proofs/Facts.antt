@@ -16,7 +16,7 @@ use Rattle.format.specs.Proper.{trits_of, shadows_of, ProperTrits}
 use Rattle.format.specs.Edges.{operand_at, edge_at, edge_list, operand_edges, is_edge, user_of}
 use Rattle.format.specs.Table.{AllNodes}
 use Rattle.format.proofs.Laws.{both_true, rank_mono, length_run, get_or_run, length_keep, rank_here, get_or_other, length_keep_key}
-use Rattle.format.proofs.Select.{place_of, length_places}
+use Rattle.format.proofs.Select.{place_of_lem, length_places}
 use Rattle.format.proofs.Sizes.{total_counts, total_cong}
 use Rattle.format.proofs.CheckLaws.{shadow_nodes, trits_of_image, shadows_of_image}
 use Rattle.format.proofs.ProperLaws.{zeros_ones, last_zero_lem}
@@ -108,7 +108,7 @@ length_edges trits H pr =
 pub group_twos : (trits H : List ℕ) (i : ℕ) → Each (λ p. get_or trits p 0 ≡ 2) (group trits H i)
 unfolding group
 group_twos trits H i =
-    each_kept (λ p. get_or trits p 0 ≡ 2) (λ p. eqb (shadow_at trits H p) i) (places 2 trits) (λ j l. (place_of 2 trits j (subst (λ (k : ℕ). j < k) (length_places 2 trits) l)).holds)
+    each_kept (λ p. get_or trits p 0 ≡ 2) (λ p. eqb (shadow_at trits H p) i) (places 2 trits) (λ j l. (place_of_lem 2 trits j (subst (λ (k : ℕ). j < k) (length_places 2 trits) l)).holds)
 
 pub operands_le : (trits H : List ℕ) → ProperTrits trits H → (i : ℕ) → length (operand_edges trits H i) ≤ edge_count trits
 unfolding operand_edges

@@ -15,7 +15,7 @@ use Rattle.format.specs.Image.{bytes, node_count, marks, mark_words, group, grou
 use Rattle.format.specs.Proper.{ProperTrits}
 use Rattle.format.proofs.Laws.{length_run, get_or_run, get_or_each, rank_le, rank_count, count_le}
 use Rattle.format.proofs.Digits.{horner_digits, horner_lt, length_spread, spread_at, gather_at, length_gather, block, below_block, length_block}
-use Rattle.format.proofs.Select.{place_of, length_places, rank_cut}
+use Rattle.format.proofs.Select.{place_of_lem, length_places, rank_cut}
 use Rattle.format.proofs.Places.{all_at}
 use Rattle.format.proofs.Sizes.{length_trytes, length_bytes, length_starts, length_pairs, length_mark_words, length_mark_samples, length_grouped, length_marks, grouped_le, grouped_suc}
 use Rattle.format.proofs.Marks.{below_marks}
@@ -162,7 +162,7 @@ fits4 trits H e few =
     (each_one (λ x. x < 256 ^ 4) (length H) (omega arith))
 
 below_places : (t : ℕ) (xs : List ℕ) → Below (length xs) (places t xs)
-below_places t xs j l = (place_of t xs j (omega (arith, length_places t xs))).inside
+below_places t xs j l = (place_of_lem t xs j (omega (arith, length_places t xs))).inside
 
 -- places below L
 below_grouped : (trits H : List ℕ) (j : ℕ) → Below (length trits) (grouped trits H j)

@@ -104,12 +104,12 @@ both_left : (a b : Bool) → (a && b) ≡ true → a ≡ true
 both_left true b e = refl
 both_left false b e = e
 
-both_right : (a b : Bool) → (a && b) ≡ true → b ≡ true
-both_right true b e = e
-both_right false b e = absurd (subst T (sym e) tt)
+both_right_lem : (a b : Bool) → (a && b) ≡ true → b ≡ true
+both_right_lem true b e = e
+both_right_lem false b e = absurd (subst T (sym e) tt)
 
 pub both_true : (a b : Bool) → (a && b) ≡ true → (a ≡ true) × (b ≡ true)
-both_true a b e = (both_left a b e, both_right a b e)
+both_true a b e = (both_left a b e, both_right_lem a b e)
 
 pub true_both : (a b : Bool) → a ≡ true → b ≡ true → (a && b) ≡ true
 true_both true b p q = q
@@ -123,7 +123,7 @@ module _ {ℓ} {A : Type ℓ} (f : A → Bool) where
   pub every_at : (xs : List A) → every f xs ≡ true → (i : ℕ) (d : A) → i < length xs → f (get_or xs i d) ≡ true
   every_at [] e i d h = absurd (not-suc-le-zero h)
   every_at (x ∷ xs) e zero d h = both_left (f x) (every f xs) e
-  every_at (x ∷ xs) e (suc i) d h = every_at xs (both_right (f x) (every f xs) e) i d (le_of_suc-le-suc h)
+  every_at (x ∷ xs) e (suc i) d h = every_at xs (both_right_lem (f x) (every f xs) e) i d (le_of_suc-le-suc h)
 
   pub at_every : (d : A) (xs : List A) → ((i : ℕ) → i < length xs → f (get_or xs i d) ≡ true) → every f xs ≡ true
   at_every d [] h = refl
@@ -147,7 +147,7 @@ same_eq [] (y ∷ ys) e = absurd (subst T (sym e) tt)
 same_eq (x ∷ xs) [] e = absurd (subst T (sym e) tt)
 same_eq (x ∷ xs) (y ∷ ys) e =
     let e1 : x ≡ y = eqb-true x y (both_left (eqb x y) (same xs ys) e) in
-    let e2 : xs ≡ ys = same_eq xs ys (both_right (eqb x y) (same xs ys) e) in
+    let e2 : xs ≡ ys = same_eq xs ys (both_right_lem (eqb x y) (same xs ys) e) in
     cc
 
 pub same_refl : (xs : List ℕ) → same xs xs ≡ true

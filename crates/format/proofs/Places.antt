@@ -22,10 +22,10 @@ module _ {A : Type 0} (P : A → Type 0) where
   all_append [] ys a b = b
   all_append (x ∷ xs) ys a b = (a.0, all_append xs ys a.1 b)
 
-  pub all_get_d : (xs : List A) (i : ℕ) (d : A) → All P xs → P d → P (get_or xs i d)
-  all_get_d [] i d a b = b
-  all_get_d (x ∷ xs) zero d a b = a.0
-  all_get_d (x ∷ xs) (suc i) d a b = all_get_d xs i d a.1 b
+  pub all_get_or : (xs : List A) (i : ℕ) (d : A) → All P xs → P d → P (get_or xs i d)
+  all_get_or [] i d a b = b
+  all_get_or (x ∷ xs) zero d a b = a.0
+  all_get_or (x ∷ xs) (suc i) d a b = all_get_or xs i d a.1 b
 
   pub all_at : (xs : List A) (i : ℕ) (d : A) → All P xs → i < length xs → P (get_or xs i d)
   all_at [] i d a h = absurd (not-suc-le-zero h)

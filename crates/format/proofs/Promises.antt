@@ -88,12 +88,12 @@ pub packing_kept : (table order work buffer : List ℕ) → BuffersKept order wo
 packing_kept table order work buffer =
     let K : PackOutcome → Type 0 = BuffersKept order work buffer in
     let early : (n : Numbers) → K (record { returned = n; order = order; work = work; image = buffer }) =
-    λ n. record { order_length = refl; work_length = refl; image_length_lem = refl; order_fits = λ h. h; work_fits = λ h. h; image_fits = λ h. h } in
+    λ n. record { order_length = refl; work_length = refl; image_length = refl; order_fits = λ h. h; work_fits = λ h. h; image_fits = λ h. h } in
     let late : (n : Numbers) (g : Graph) → 3 * nodes g ≤ length work → K (record { returned = n; order = order; work = cleared g work; image = buffer }) = λ n g w.
     record {
       order_length = refl;
       work_length = length_cleared g work w;
-      image_length_lem = refl;
+      image_length = refl;
       order_fits = λ h. h;
       work_fits = below_cleared 4294967296 g work (lit< tt);
       image_fits = λ h. h;
@@ -102,7 +102,7 @@ packing_kept table order work buffer =
     (λ r. record {
       order_length = length_over (level_order r.of) order (omega (arith, (packable table r.of r.is).all_reached, r.order_room));
       work_length = length_cleared r.of work r.work_room;
-      image_length_lem = length_over (image_of r.of) buffer r.image_room;
+      image_length = length_over (image_of r.of) buffer r.image_room;
       order_fits = below_over 65536 (level_order r.of) order (order_words table r.of r.is);
       work_fits = below_cleared 4294967296 r.of work (lit< tt);
       image_fits = below_over 256 (image_of r.of) buffer (image_bytes table r.of r.is);

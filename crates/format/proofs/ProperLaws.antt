@@ -16,7 +16,7 @@ use Rattle.format.specs.Image.{until_zero, node_count, root_count, group, shadow
 use Rattle.format.specs.Proper.{roots_first, balanced, grown, ones_before, ProperTrits}
 use Rattle.format.specs.Edges.{edge_at, operand_edges, use_edges}
 use Rattle.format.proofs.Laws.{both_true, count_three, every_run, run_every, length_run, length_cons_if}
-use Rattle.format.proofs.Select.{select_at, select_found, place_of}
+use Rattle.format.proofs.Select.{select_at, select_found, place_of_lem}
 use Rattle.format.proofs.Sizes.{length_group}
 use Rattle.format.proofs.CheckLaws.{shadow_seen}
 use Rattle.format.proofs.EdgeLaws.{Seen, operand_edges_run, use_edges_run}
@@ -82,7 +82,7 @@ unfolding roots_first shadow_at
 proper_seen trits H p q l e = (go (rank 0 trits q) refl, (shadow_seen trits H p.seen q l e).1)
   where
     go : (x : ℕ) → rank 0 trits q ≡ x → 0 < rank 0 trits q
-    go zero ex = absurd (omega (arith, front 2 trits q (suc-le-suc zero-le) l ex e, eqb-true (count_in 2 (until_zero trits)) 0 p.roots_first_lem))
+    go zero ex = absurd (omega (arith, front 2 trits q (suc-le-suc zero-le) l ex e, eqb-true (count_in 2 (until_zero trits)) 0 p.roots_are_first))
     go (suc x) ex = omega arith
 
 -- ---- a node's 1, its zero and the next
@@ -91,7 +91,7 @@ pub nth_selected : (t : ℕ) (trits : List ℕ) (j : ℕ) → 1 ≤ j → j ≤ 
 unfolding nth
 nth_selected t trits j h l =
     let e : suc (j - 1) ≡ j = omega arith in
-    subst (λ (x : ℕ). Selected t trits x (get_or (places t trits) (j - 1) 0)) e (place_of t trits (j - 1) (omega arith))
+    subst (λ (x : ℕ). Selected t trits x (get_or (places t trits) (j - 1) 0)) e (place_of_lem t trits (j - 1) (omega arith))
 
 -- operands and uses of node i, for a proper image
 pub operands_places : (trits H : List ℕ) → ProperTrits trits H → (i : ℕ) → 1 ≤ i → i ≤ node_count trits
@@ -145,7 +145,7 @@ walk_grown trits c h =
     run_every (λ i. leb i (ones_before trits (select 0 trits i))) 1 (count_in 1 trits)
     (λ j l.
     let p : ℕ = get_or (places 0 trits) j 0 in
-    let s : Selected 0 trits (suc j) p = place_of 0 trits j (omega arith) in
+    let s : Selected 0 trits (suc j) p = place_of_lem 0 trits j (omega arith) in
     let rj : suc (rank 0 trits p) ≡ suc j = s.ranked in
     let g : rank 0 trits p < rank 1 trits p = h p s.inside s.holds (omega arith) in
     ap (λ (k : ℕ). leb k (ones_before trits (select 0 trits k))) (one-add j)

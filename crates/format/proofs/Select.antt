@@ -144,8 +144,8 @@ unfolding select
 select_found t xs j h = get_elem_some (places t xs) j 0 (omega (arith, length_places t xs))
 
 -- the j-th place, counted from 0
-pub place_of : (t : ℕ) (xs : List ℕ) (j : ℕ) → j < count_in t xs → Selected t xs (suc j) (get_or (places t xs) j 0)
-place_of t xs j h = select_some t xs (suc j) (get_or (places t xs) j 0) (select_found t xs j h)
+pub place_of_lem : (t : ℕ) (xs : List ℕ) (j : ℕ) → j < count_in t xs → Selected t xs (suc j) (get_or (places t xs) j 0)
+place_of_lem t xs j h = select_some t xs (suc j) (get_or (places t xs) j 0) (select_found t xs j h)
 
 pub place_rank : (t : ℕ) (xs : List ℕ) (p : ℕ) → p < length xs → get_or xs p 0 ≡ t → get_or (places t xs) (rank t xs p) 0 ≡ p
 unfolding select

@@ -17,7 +17,7 @@ use Rattle.format.specs.Image.{le_bytes, bytes, node_count, marked, marks, mark_
 use Rattle.format.specs.Table.{AllNodes}
 use Rattle.format.proofs.Laws.{length_run, length_each, true_both, bit_le, run_snoc, join_append, length_keep_key, run_add, get_or_other}
 use Rattle.format.proofs.Digits.{length_digits, length_gather, length_spread, length_blocks}
-use Rattle.format.proofs.Select.{length_places, place_of}
+use Rattle.format.proofs.Select.{length_places, place_of_lem}
 
 -- ---- section 5 has an entry for each entry of H
 
@@ -70,7 +70,7 @@ shadows_map trits H e =
     ext_get_or (f 0) (map f (places 2 trits)) H (n ∙ sym e)
     (λ j l.
     let h : j < count_in 2 trits = subst (λ (k : ℕ). j < k) n l in
-    get_or-map f (places 2 trits) j 0 ∙ ap (λ (k : ℕ). get_or H k 0) (suc_inj (place_of 2 trits j h).ranked) ∙ get_or_other H j 0 (f 0) (omega arith))
+    get_or-map f (places 2 trits) j 0 ∙ ap (λ (k : ℕ). get_or H k 0) (suc_inj (place_of_lem 2 trits j h).ranked) ∙ get_or_other H j 0 (f 0) (omega arith))
 
 pub length_group : (trits H : List ℕ) → length H ≡ count_in 2 trits → (i : ℕ) → length (group trits H i) ≡ count_in i H
 unfolding group

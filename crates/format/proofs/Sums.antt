@@ -51,7 +51,7 @@ first_zero trits H p =
       before_first 1 trits z (le_refl 1) (omega arith) r0,
       upto_first 1 trits z (le_refl 1) inz s.holds,
       before_first 2 trits z (suc-le-suc zero-le) (omega arith) r0,
-      eqb-true (count_in 2 (until_zero trits)) 0 p.roots_first_lem,
+      eqb-true (count_in 2 (until_zero trits)) 0 p.roots_are_first,
     )
 
 pub final_zero : (trits H : List ℕ) → ProperTrits trits H → nth 0 trits (suc (node_count trits)) ≡ length trits - 1

@@ -11,7 +11,7 @@ use lib.ListN.{length, length-append}
 use lib.Seq.{append_snoc}
 use lib.Dec.{T, leb, eqb, leb→le, le→leb, eqb→eq}
 use Rattle.format.specs.Lists.{All, number_in, sum_of, Nodup}
-use Rattle.format.specs.Table.{Graph, Node, is_node, counted, list_words, Got, stopped, got, and_then, need, word, read_operands, read_nodes, read_roots, read_graph, faulty, whole_table, read_table, Front, OperandsFront, RootsFront, FirstFault, no_size, no_count, no_operand, no_root, nodes_above, edges_above, operand_outside, root_outside, root-again, words_after, read_end}
+use Rattle.format.specs.Table.{Graph, Node, is_node, counted, list_words, Got, stopped, got, and_then, need, word, read_operands, read_nodes, read_roots, read_graph, faulty, whole_table, read_table, Front, OperandsFront, RootsFront, FirstFault, no_size, no_count, no_operand, no_root, nodes_above, edges_above, operand_outside, root_outside, root_again, words_after, read_end}
 use Rattle.format.proofs.Places.{all_append, sum_append, nodup_mid, nodup_snoc, number_mem, mem_number}
 use Rattle.format.proofs.Walks.{is_node_lem}
 use Rattle.format.proofs.Reading.{node_test, zero_test, need_yes, Holds, onto, operand_on, next_lists, count_on, list_on, root_on, with_roots, size_on, lists_on, read_graph_lem, Operands, got_operands, Rows, got_nodes, TableOf, got_graph}
@@ -85,7 +85,7 @@ module _ (table : List ℕ) where
             sound_need (is_node n r) 4 _ (λ u. root_outside n os c rs r ws (roots_front i d) (λ h. u (node_test n r h)) i.are) λ t.
             let h : Node n r = is_node_lem n r t in
             sound_need (eqb (number_in r rs) 0) 5 _
-            (λ u. root-again n os c rs r ws (roots_front i d) h (number_mem r rs (λ z. u (zero_test (number_in r rs) z))) i.are) λ z.
+            (λ u. root_again n os c rs r ws (roots_front i d) h (number_mem r rs (λ z. u (zero_test (number_in r rs) z))) i.are) λ z.
             sound_made (read_roots n j (rs ++ r ∷ []) ws) _ (sound_roots j (rs ++ r ∷ []) ws (step i h) (nodup_snoc rs r d (eqb→eq (number_in r rs) 0 z)))
 
         sound_end : (ws : List ℕ) → table ≡ n ∷ list_words os ++ ws → Sound (read_end n os ws)
@@ -205,7 +205,7 @@ first_stops table _ (operand_outside n os k vs v rest h out e) =
     ap read_table e ∙ operands_fault n 3 os k vs (v ∷ rest) h λ j. need_no (is_node n v) 3 _ (λ t. out (is_node_lem n v t))
 first_stops table _ (root_outside n os c rs r rest h out e) =
     ap read_table e ∙ roots_fault n 4 os c rs (r ∷ rest) h λ j. need_no (is_node n r) 4 _ (λ t. out (is_node_lem n r t))
-first_stops table _ (root-again n os c rs r rest h i m e) =
+first_stops table _ (root_again n os c rs r rest h i m e) =
     ap read_table e ∙ roots_fault n 5 os c rs (r ∷ rest) h λ j.
     need_yes (is_node n r) 4 _ (node_test n r i) ∙ need_no (eqb (number_in r rs) 0) 5 _ (λ t. mem_number m (eqb→eq (number_in r rs) 0 t))
 first_stops table _ (words_after g w rest wf lim e) = ap read_table e ∙ ap whole_table (read_graph_lem g (w ∷ rest) wf lim)
@@ -224,7 +224,7 @@ fault_code (nodes_above n rest h e) = omega arith
 fault_code (edges_above n os k rest h d a e) = omega arith
 fault_code (operand_outside n os k vs v rest h o e) = omega arith
 fault_code (root_outside n os c rs r rest h o e) = omega arith
-fault_code (root-again n os c rs r rest h i m e) = omega arith
+fault_code (root_again n os c rs r rest h i m e) = omega arith
 fault_code (words_after g w rest f l e) = omega arith
 
 pub read_code : (table : List ℕ) (f : ℕ) → read_table table ≡ faulty f → (1 ≤ f) × (f ≤ 6)

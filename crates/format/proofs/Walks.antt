@@ -14,7 +14,7 @@ use Rattle.format.specs.Table.{Graph, nodes, Node, operands_of, is_node, WellFor
 use Rattle.format.specs.Level.{Walk, enter, see, see_all, close, visit, super_root, taken, turns}
 use Rattle.format.proofs.Cutting.{operand_numbers}
 use Rattle.format.proofs.Laws.{count_append}
-use Rattle.format.proofs.Places.{all_append, all_get_d, nodup_snoc, nodup_mid, number_in_lem, number_new, take_end, take_next}
+use Rattle.format.proofs.Places.{all_append, all_get_or, nodup_snoc, nodup_mid, number_in_lem, number_new, take_end, take_next}
 
 -- ---- a well-formed graph
 
@@ -28,7 +28,7 @@ is_node_lem n v t = let r = and_both (leb 1 v) (leb v n) t in (leb→le 1 v r.0,
 pub operands_inside : (g : Graph) → WellFormed g → (v : ℕ) → All (Node (nodes g)) (operands_of g v)
 unfolding operands_of
 operands_inside g f zero = tt
-operands_inside g f (suc i) = all_get_d (All (Node (nodes g))) g.operands i [] f.inside tt
+operands_inside g f (suc i) = all_get_or (All (Node (nodes g))) g.operands i [] f.inside tt
 
 -- ---- seeing one operand: two cases
 

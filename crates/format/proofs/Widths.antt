@@ -56,9 +56,9 @@ module _ (trits H : List ℕ) (p : ProperTrits trits H) where
       let h : horner 3 b < 3 ^ 5 = horner_lt 3 5 b (lit< tt) (below_block 3 5 (lit< tt) (lit< tt) trits p.threes i) (length_block 3 5 (lit< tt) (lit< tt) trits i) in
       omega (arith, gather_at 3 5 trits i (subst (λ (k : ℕ). i < k) (length_trytes trits) l))
 
-  bytes_low : (w : ℕ) (xs : List ℕ) → 0 < w → Below 256 (bytes w xs)
+  bytes_low_lem : (w : ℕ) (xs : List ℕ) → 0 < w → Below 256 (bytes w xs)
   unfolding bytes
-  bytes_low w xs h = below_spread 256 w (lit< tt) h xs
+  bytes_low_lem w xs h = below_spread 256 w (lit< tt) h xs
 
   written_low : (ss : List Section) → All (λ (s : Section). Below 256 s.contents) ss → Below 256 (written ss)
   written_low [] a = λ i l. absurd (not-suc-le-zero l)
@@ -70,10 +70,10 @@ module _ (trits H : List ℕ) (p : ProperTrits trits H) where
   unfolding image given section1 section2 section3 section4 section5 section6 section7 section8 section9
   image_low =
       written_low (section1 trits H ∷ section2 trits H ∷ given trits H)
-      (trytes_low and bytes_low 2 H (lit< tt) and bytes_low 8 (mark_words trits H) (lit< tt) and bytes_low 4 (starts trits H) (lit< tt)
-      and bytes_low 4 (grouped trits H (node_count trits)) (lit< tt) and bytes_low 4 (pairs 65725 (λ p. 0) trits) (lit< tt)
-      and bytes_low 2 (pairs 275 (last_multiple 65725) trits) (lit< tt) and bytes_low 1 (pairs 25 (last_multiple 275) trits) (lit< tt)
-      and bytes_low 2 (mark_samples trits H) (lit< tt) and tt)
+      (trytes_low and bytes_low_lem 2 H (lit< tt) and bytes_low_lem 8 (mark_words trits H) (lit< tt) and bytes_low_lem 4 (starts trits H) (lit< tt)
+      and bytes_low_lem 4 (grouped trits H (node_count trits)) (lit< tt) and bytes_low_lem 4 (pairs 65725 (λ p. 0) trits) (lit< tt)
+      and bytes_low_lem 2 (pairs 275 (last_multiple 65725) trits) (lit< tt) and bytes_low_lem 1 (pairs 25 (last_multiple 275) trits) (lit< tt)
+      and bytes_low_lem 2 (mark_samples trits H) (lit< tt) and tt)
 
 -- ---- rank by the samples of sections 6, 7 and 8, whole trytes, and part of one
 

@@ -70,7 +70,7 @@ pub record RoomEnough (table order work buffer : List ℕ) : Type 0 where
 pub record BuffersKept (order work image : List ℕ) (o : PackOutcome) : Type 0 where
   pub order_length : length o.order ≡ length order
   pub work_length : length o.work ≡ length work
-  pub image_length_lem : length o.image ≡ length image
+  pub image_length : length o.image ≡ length image
   pub order_fits : Below 65536 order → Below 65536 o.order
   pub work_fits : Below 4294967296 work → Below 4294967296 o.work
   pub image_fits : Below 256 image → Below 256 o.image

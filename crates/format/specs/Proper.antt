@@ -119,7 +119,7 @@ pub record ProperTrits (trits H : List ℕ) : Type 0 where
   pub threes : Below 3 trits
   pub length_low : 1 ≤ length trits
   pub length_high : length trits ≤ 125536
-  pub roots_first_lem : roots_first trits ≡ true
+  pub roots_are_first : roots_first trits ≡ true
   pub is_balanced : balanced trits ≡ true
   pub is_grown : grown trits ≡ true
   pub in_limits : limits trits ≡ true
@@ -134,7 +134,7 @@ ImageCode x = (x ≡ 0) ⊎ ((21 ≤ x) × (x ≤ 26))
 pub record OwnRules (L : ℕ) (bs : List ℕ) : Type 0 where
   pub is_low : bytes_low bs ≡ true
   pub is_padded : padded L bs ≡ true
-  pub roots_first_lem : roots_first (untrytes L bs) ≡ true
+  pub roots_are_first : roots_first (untrytes L bs) ≡ true
   pub is_balanced : balanced (untrytes L bs) ≡ true
   pub is_grown : grown (untrytes L bs) ≡ true
 

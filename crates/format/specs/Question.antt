@@ -85,7 +85,7 @@ says c v s = record { code = c; value = v; sort = s }
 abbrev pub Beyond : ℕ → ℕ → Type 0
 Beyond n b = (b ≡ 0) ⊎ (n < b)
 
--- What kinds 0 to 2 answer, and where 31, 32 and 33 are given, kind by kind (33 of kinds 4 and 6: Demands, operand-past and user-past).
+-- What kinds 0 to 2 answer, and where 31, 32 and 33 are given, kind by kind (33 of kinds 4 and 6: Demands, operand_past and user_past).
 pub record Kinds (trits H : List ℕ) : Type 0 where
   -- "The kind is looked at first, then a, then b"
   pub unknown : (k a b : ℕ) → 6 < k → answer trits H k a b ≡ says 31 0 0

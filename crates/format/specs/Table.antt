@@ -161,7 +161,7 @@ pub data FirstFault (table : List ℕ) : ℕ → Type 0 where
   root_outside : (n : ℕ) (os : List (List ℕ)) (c : ℕ) (rs : List ℕ) (r : ℕ) (rest : List ℕ) → RootsFront n os c rs → (Node n r → ⊥)
       → table ≡ n ∷ list_words os ++ c ∷ rs ++ r ∷ rest → FirstFault table 4
   -- 5: root named before
-  root-again : (n : ℕ) (os : List (List ℕ)) (c : ℕ) (rs : List ℕ) (r : ℕ) (rest : List ℕ) → RootsFront n os c rs → Node n r → Memᴰ r rs
+  root_again : (n : ℕ) (os : List (List ℕ)) (c : ℕ) (rs : List ℕ) (r : ℕ) (rest : List ℕ) → RootsFront n os c rs → Node n r → Memᴰ r rs
       → table ≡ n ∷ list_words os ++ c ∷ rs ++ r ∷ rest → FirstFault table 5
   -- 6: words after the roots
   words_after : (g : Graph) (w : ℕ) (rest : List ℕ) → WellFormed g → WithinLimits g → table ≡ words g ++ w ∷ rest → FirstFault table 6

@@ -38,9 +38,9 @@ module _ (input : List ℕ) (even : length input % 2 ≡ 0) where
   unfolding from_bytes
   words_many = omega (arith, length_gather 256 2 input)
 
-  pub word_at : (i : ℕ) → i < length input / 2 → read 2 (2 * i) input ≡ get_or (from_bytes 2 input) i 0
+  pub word_at_lem : (i : ℕ) → i < length input / 2 → read 2 (2 * i) input ≡ get_or (from_bytes 2 input) i 0
   unfolding from_bytes
-  word_at i h = sym (gather_at 256 2 input i (omega arith))
+  word_at_lem i h = sym (gather_at 256 2 input i (omega arith))
 
 -- what was written over the front of a buffer
 pub front_is : (xs old : List ℕ) {k : ℕ} {l : List ℕ} → k ≡ length xs → l ≡ over xs old → take k l ≡ xs

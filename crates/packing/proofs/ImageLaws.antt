@@ -107,7 +107,7 @@ pub record Sizes (trits H : List ℕ) (lay : Layout) : Type 0 where
   pub nodes_are : lay.nodes ≡ node_count trits
   pub shadows_are : lay.shadows ≡ length H
   pub marked_are : lay.marked ≡ length (marked_nodes trits H)
-  pub size_of_lem : (k : ℕ) → get_or (map size_of (section1 trits H ∷ map section_of (uniforms trits H))) k 0 ≡ get_or (sizes lay.trits lay.nodes lay.shadows lay.marked) k 0
+  pub size_is : (k : ℕ) → get_or (map size_of (section1 trits H ∷ map section_of (uniforms trits H))) k 0 ≡ get_or (sizes lay.trits lay.nodes lay.shadows lay.marked) k 0
 
 -- where the contents start, one section behind the other, up to the end
 pub record Offsets (trits H : List ℕ) (lay : Layout) (room : ℕ) : Type 0 where
@@ -138,12 +138,12 @@ module _ (trits H : List ℕ) (c : ℕ) (p : ProperTrits trits H) where
   own = layout (length trits) (node_count trits) c (length H) (length (marked_nodes trits H))
 
   sizes_of_lem : Sizes trits H own
-  sizes_of_lem = record { trits_are = refl; nodes_are = refl; shadows_are = refl; marked_are = refl; size_of_lem = λ k. ap (λ (l : List ℕ). get_or l k 0) (image_sectioned trits H p).sized }
+  sizes_of_lem = record { trits_are = refl; nodes_are = refl; shadows_are = refl; marked_are = refl; size_is = λ k. ap (λ (l : List ℕ). get_or l k 0) (image_sectioned trits H p).sized }
 
   offsets_of : (room : ℕ) → length (image trits H) ≤ room → Offsets trits H own room
   unfolding image given
   offsets_of room fits =
-      let z = sizes_of_lem.size_of_lem in
+      let z = sizes_of_lem.size_is in
       let w = length_written (section1 trits H ∷ section2 trits H ∷ given trits H) in
       record {
         at1_is = refl;
@@ -171,7 +171,7 @@ module _ {trits H : List ℕ} {lay : Layout} {l : List ℕ} (d : LaidOut trits H
   pub within : Within lay (length l)
   within =
       let o = offsets in
-      record { one = omega arith; two = omega arith; three = omega arith; four = omega arith; five = omega arith; nine = omega arith; ends = omega (arith, sized.size_of_lem 8) }
+      record { one = omega arith; two = omega arith; three = omega arith; four = omega arith; five = omega arith; nine = omega arith; ends = omega (arith, sized.size_is 8) }
 
   -- ---- what each function puts
 
@@ -192,7 +192,7 @@ module _ {trits H : List ℕ} {lay : Layout} {l : List ℕ} (d : LaidOut trits H
   unfolding section3 section4 section9
   marks_put ea eu eb ev ec ew =
       let o = offsets in
-      let z = sized.size_of_lem 8 in
+      let z = sized.size_is 8 in
       let three = put_part lay.at3 (lay.at4 - 4) lay.nodes l (section3 trits H) (omega arith) (omega arith) (omega arith) sized.nodes_are ea eu in
       let four = put_part lay.at4 (lay.at5 - 4) (lay.marked + 1) _ (section4 trits H) (omega arith) (omega arith) (omega (arith, puts_size three)) (omega (arith, sized.marked_are)) eb ev in
       let both = puts_behind three four (omega arith) in
@@ -200,13 +200,13 @@ module _ {trits H : List ℕ} {lay : Layout} {l : List ℕ} (d : LaidOut trits H
       rw both.is at nine.is
 
   pub plan6 : Plan 65725 2 4 lay.trits lay.at6 l
-  plan6 = record { paced = paced far; room = omega (arith, offsets, sized.size_of_lem 5) }
+  plan6 = record { paced = paced far; room = omega (arith, offsets, sized.size_is 5) }
 
   pub plan7 : Plan 275 239 2 lay.trits lay.at7 l
-  plan7 = record { paced = paced middle; room = omega (arith, offsets, sized.size_of_lem 6) }
+  plan7 = record { paced = paced middle; room = omega (arith, offsets, sized.size_is 6) }
 
   pub plan8 : Plan 25 11 1 lay.trits lay.at8 l
-  plan8 = record { paced = paced near; room = omega (arith, offsets, sized.size_of_lem 7) }
+  plan8 = record { paced = paced near; room = omega (arith, offsets, sized.size_is 7) }
 
   -- section 6 counts from place 0
   pub samples_put : {a b r : List ℕ} → a ≡ put_at l (lay.at6 - 4) (written (sample_section 65725 2 4 trits ∷ [])) → b ≡ put_at a (lay.at7 - 4) (written (section7 trits H ∷ []))
@@ -322,7 +322,7 @@ places_ready {lay = lay} s vs same e n f =
     let z = sized s.laid in (
       trits_at t lay.at5 (omega arith),
       shadows_at t lay.at5 (omega arith),
-      record { nodewise = n; firsts = λ i h. f i (omega arith); room = omega (arith, z.size_of_lem 4) },
+      record { nodewise = n; firsts = λ i h. f i (omega arith); room = omega (arith, z.size_is 4) },
     )
 
 -- ---- a walked table

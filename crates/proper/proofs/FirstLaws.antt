@@ -230,4 +230,4 @@ module _ {l : ℕ} {bs : List ℕ} {n c : ℕ} (s : Ruled l bs n c) where
       let o = s.own in
       let low : leb (node_count (untrytes l bs)) 30000 ≡ true = le-leb (node_count (untrytes l bs)) 30000 (omega (arith, s.nodes_are)) in
       let few : leb (edge_count (untrytes l bs)) 65535 ≡ true = le-leb (edge_count (untrytes l bs)) 65535 (omega (arith, edges_are)) in
-      (rw (o.is_low, o.is_padded, o.roots_first_lem, o.is_balanced, o.is_grown, low, few), s.nodes_are, s.roots_are, omega (arith, shadows_are))
+      (rw (o.is_low, o.is_padded, o.roots_are_first, o.is_balanced, o.is_grown, low, few), s.nodes_are, s.roots_are, omega (arith, shadows_are))

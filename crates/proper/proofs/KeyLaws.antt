@@ -16,7 +16,7 @@ use Rattle.format.specs.Trits.{rank, places}
 use Rattle.format.specs.Image.{bytes, node_count, shadow_at, group, grouped, read}
 use Rattle.format.specs.Proper.{ProperTrits}
 use Rattle.format.proofs.Laws.{both_true, keep_keep, get_or_other, get_or_each, length_each, same_eq, rank_here, rank_count}
-use Rattle.format.proofs.Select.{place_of, length_places}
+use Rattle.format.proofs.Select.{place_of_lem, length_places}
 use Rattle.format.proofs.Sizes.{grouped_suc, length_grouped, length_bytes}
 use Rattle.format.proofs.Places.{mem_run, all_run, all_mem}
 use Rattle.format.proofs.Rising.{Within, rising_within}
@@ -112,7 +112,7 @@ module _ (trits H : List ℕ) where
       rw grouped_suc
       (each_append (Two trits) (grouped trits H n) (group trits H (suc n)) (grouped_twos n)
       (each_kept (Two trits) (λ p. eqb (shadow_at trits H p) (suc n)) (places 2 trits)
-      (λ i l. let s = place_of 2 trits i (omega (arith, length_places 2 trits)) in (s.inside, s.holds))))
+      (λ i l. let s = place_of_lem 2 trits i (omega (arith, length_places 2 trits)) in (s.inside, s.holds))))
 
   two_grouped : (n p : ℕ) → Two trits p → 1 ≤ shadow_at trits H p → shadow_at trits H p ≤ n → Memᴰ p (grouped trits H n)
   unfolding grouped group places

@@ -89,7 +89,7 @@ module _ {bs : List ℕ} {l n c k : ℕ} (F : FirstPassed bs l n c k) where
         threes = trits_untrytes l bs;
         length_low = omega (arith, long, F.some);
         length_high = omega (arith, long, F.few);
-        roots_first_lem = fault_zero 23 (roots_first trits) (lit< tt) s3.0;
+        roots_are_first = fault_zero 23 (roots_first trits) (lit< tt) s3.0;
         is_balanced = fault_zero 23 (balanced trits) (lit< tt) s4.0;
         is_grown = fault_zero 23 (grown trits) (lit< tt) s5.0;
         in_limits = fault_zero 22 (limits trits) (lit< tt) s5.1;

@@ -1,3 +1,4 @@
+-- Roots are written up to the limit. Assumes nothing.
 use Rattle.std.proofs.Common.{◌-◌, ◌≤◌}
 use Rattle.cases.proofs.all_roots.Given as goal
 

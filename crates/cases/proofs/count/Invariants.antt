@@ -1,3 +1,4 @@
+-- As many words as were looked at, at most. Assumes nothing.
 use Rattle.std.proofs.Common.{◌-◌, ◌≤◌, length}
 use Rattle.cases.proofs.count.Given as goal
 

@@ -1,3 +1,4 @@
+-- The text is gone through once. Assumes nothing.
 use Rattle.std.proofs.Common.{◌-◌, ◌≤◌, length}
 use Rattle.cases.proofs.read.Given as goal
 

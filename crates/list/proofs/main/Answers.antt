@@ -1,4 +1,4 @@
--- The text lies within its buffer.
+-- The text lies within its buffer. Assumes nothing.
 use Rattle.std.proofs.Common.{arith, ◌≤◌, length, length-take}
 use Rattle.listing.proofs.TableLaws.{text_inside}
 use Rattle.list.proofs.main.Goals as goal

@@ -1,3 +1,4 @@
+-- What has come lies within the buffer. Assumes nothing.
 use Rattle.std.proofs.Common.{length, ◌-◌, ◌≤◌}
 use Rattle.list.proofs.read_full.Given as goal
 

@@ -1,4 +1,4 @@
--- 61, or the text of the table that the bytes hold.
+-- 61, or the text of the table that the bytes hold. Assumes nothing.
 use Rattle.std.proofs.Common.{arith, ◌≡◌, ◌≤◌, ◌%◌, sym, ap, ◌∙◌, List, ℕ, length, take, length-take, inl, inr}
 use Rattle.format.specs.Image.{from_bytes}
 use Rattle.format.specs.Table.{read_table}

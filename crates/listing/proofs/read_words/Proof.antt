@@ -4,7 +4,7 @@ use native.Mathlib.Omega.{arith}
 use mathlib.Core.Path.{sym, ◌∙◌}
 use Rattle.format.specs.Image.{from_bytes}
 use Rattle.format.proofs.Over.{Over, over_none, over_length, over_next, over_done}
-use Rattle.listing.proofs.TableLaws.{words_many, word_at}
+use Rattle.listing.proofs.TableLaws.{words_many, word_at_lem}
 use Rattle.listing.proofs.read_words.Statement.{statement}
 use Rattle.listing.proofs.read_words.Tie as tie
 
@@ -26,6 +26,6 @@ read_words_spec =
     (λ c. omega (arith, over_length c.loop-i.invariant, c.requires.1))
     (λ c. omega arith)
     (λ c. omega arith)
-    (λ c. over_next c.loop-i.invariant c.loop-i-test.true _ (c.get2.ensures.0 ∙ word_at c.args.input.now c.requires.0 _ c.loop-i-test.true))
+    (λ c. over_next c.loop-i.invariant c.loop-i-test.true _ (c.get2.ensures.0 ∙ word_at_lem c.args.input.now c.requires.0 _ c.loop-i-test.true))
     (λ c. over_length c.loop-i.invariant)
     (λ c. (sym (words_many c.args.input.now c.requires.0), over_done c.loop-i.invariant c.loop-i-test.false)))

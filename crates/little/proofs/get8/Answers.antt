@@ -1,4 +1,4 @@
--- Two of the half width, by `read_add`.
+-- Two of the half width, by `read_add`. Assumes nothing.
 use Rattle.std.proofs.Common.{arith}
 use Rattle.little.proofs.Laws.{read_add}
 use Rattle.little.proofs.get8.Goals as goal

@@ -1,4 +1,4 @@
--- Two of the half width, by `put_add`.
+-- Two of the half width, by `put_add`. Assumes nothing.
 use Rattle.std.proofs.Common.{arith}
 use Rattle.little.proofs.Laws.{put_add}
 use Rattle.little.proofs.put4.Goals as goal

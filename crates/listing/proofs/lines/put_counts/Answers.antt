@@ -1,4 +1,4 @@
--- The counts of the graph, the counts of the image, and the end of the line.
+-- The counts of the graph, the counts of the image, and the end of the line. Assumes nothing.
 use Rattle.std.proofs.Common.{arith, refl}
 use Rattle.trits.proofs.Levels.{accepted}
 use Rattle.listing.proofs.TextLaws.{fits, next, finish}

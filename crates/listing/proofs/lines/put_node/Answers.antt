@@ -1,4 +1,4 @@
--- The number, the operands, the users, and the end of the line.
+-- The number, the operands, the users, and the end of the line. Assumes nothing.
 use Rattle.std.proofs.Common.{arith}
 use Rattle.listing.proofs.TextLaws.{fits, next, finish}
 use Rattle.listing.proofs.LineLaws.{begin_node}

@@ -1,4 +1,4 @@
--- The last digit stands behind the digits of a tenth.
+-- The last digit stands behind the digits of a tenth. Assumes nothing.
 use Rattle.std.proofs.Common.{arith}
 use Rattle.listing.proofs.TextLaws.{fits, next, finish, digits_more}
 use Rattle.listing.proofs.text.+put_digits.Goals as goal

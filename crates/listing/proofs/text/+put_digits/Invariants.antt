@@ -1,4 +1,4 @@
--- The measure is the number of digits that it may still put.
+-- The measure is the number of digits that it may still put. Assumes nothing.
 use Rattle.listing.proofs.text.+put_digits.Given as goal
 
 abbrev pub decreases-put_digits : goal.decreases-put_digits

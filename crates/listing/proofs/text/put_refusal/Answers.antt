@@ -1,4 +1,4 @@
--- The word and the number, then the end of the line.
+-- The word and the number, then the end of the line. Assumes nothing.
 use Rattle.listing.proofs.TextLaws.{fits, next, finish, begin_refusal}
 use Rattle.listing.proofs.text.put_refusal.Goals as goal
 

@@ -16,13 +16,13 @@ put-marks-requires c κs =
     let p = c.requires in
     let d = p.2 in
     let n = (sized d).nodes_are in
-    (omega (arith, p.3.nodes, few_nodes d), omega (arith, p.3.nodes, within d, (offsets d).at4_is, (sized d).size_of_lem 2), (p.0, p.1, p.3))
+    (omega (arith, p.3.nodes, few_nodes d), omega (arith, p.3.nodes, within d, (offsets d).at4_is, (sized d).size_is 2), (p.0, p.1, p.3))
 
 put-starts-requires : tie.Need-put_starts-requires
 put-starts-requires c κs =
     let p = c.requires in
     let d = p.2 in
-    (p.0, p.1, p.3, omega (arith, shadows_few d.proper), omega (arith, within d, (offsets d).at5_is, (sized d).size_of_lem 3, (sized d).marked_are))
+    (p.0, p.1, p.3, omega (arith, shadows_few d.proper), omega (arith, within d, (offsets d).at5_is, (sized d).size_is 3, (sized d).marked_are))
 
 put-mark-samples-requires : tie.Need-put_mark_samples-requires
 put-mark-samples-requires c κs =
@@ -47,7 +47,7 @@ put_marks_spec =
     (λ c. omega (arith, fit c.before.before.before.before.before.before.before))
     (λ c. omega (arith, fit c.before.before.before.before.before.before.before))
     put-marks-requires
-    (λ c. let d = c.requires.2 in omega (arith, within d, (offsets d).at5_is, (sized d).size_of_lem 3))
+    (λ c. let d = c.requires.2 in omega (arith, within d, (offsets d).at5_is, (sized d).size_is 3))
     (λ c. omega (arith, fit c.before.before.before.before.before.before.before.before.before.before.before.before.before))
     (λ c. omega (arith, fit c.before.before.before.before.before.before.before.before.before.before.before.before.before.before))
     (λ c κs. omega (arith, fit c.before.before.before.before.before.before.before.before.before.before.before.before.before.before))

@@ -14,13 +14,13 @@ put-trytes-requires : tie.Need-put_trytes-requires
 put-trytes-requires c κs =
     let p = c.requires in
     let d = laid_walk p in
-    (p.walked, (roots_from p).1, omega (arith, within d, (offsets d).at2_is, (sized d).size_of_lem 0, (sized d).trits_are))
+    (p.walked, (roots_from p).1, omega (arith, within d, (offsets d).at2_is, (sized d).size_is 0, (sized d).trits_are))
 
 put-shadows-requires : tie.Need-put_shadows-requires
 put-shadows-requires c κs =
     let p = c.requires in
     let d = laid_walk p in
-    (p.walked, (roots_from p).1, omega (arith, within d, (offsets d).at3_is, (sized d).size_of_lem 1, (sized d).shadows_are))
+    (p.walked, (roots_from p).1, omega (arith, within d, (offsets d).at3_is, (sized d).size_is 1, (sized d).shadows_are))
 
 returns : tie.Need-returns
 unfolding section1 section2

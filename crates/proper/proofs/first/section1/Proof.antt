@@ -17,7 +17,7 @@ returns-2 : tie.Need-returns-then-not-zero_padded
 returns-2 c = rule_broken (λ o. not_both (sym c.zero_padded.ensures ∙ c.if-not-zero_padded.true) o.is_padded)
 
 returns-3 : tie.Need-returns-in_default
-returns-3 c = rule_broken (λ o. subst (RootsSay _) c.in_default.is c.roots_given.ensures o.roots_first_lem o.is_balanced)
+returns-3 c = rule_broken (λ o. subst (RootsSay _) c.in_default.is c.roots_given.ensures o.roots_are_first o.is_balanced)
 
 returns-4 : tie.Need-returns-in_default-nodes_given
 returns-4 c = rule_broken (λ o. subst (NodesSay _) c.in_default-nodes_given.is c.nodes_given.ensures o.is_balanced o.is_grown)
@@ -39,7 +39,7 @@ ruled c =
     let r = subst (RootsSay _) c.in-Number.is c.roots_given.ensures in
     record {
       long = length_untrytes _ _ c.requires.0;
-      own = record { is_low = (passed c.before.before.before.before.before.before).0; is_padded = (passed c.before.before.before.before.before.before).1; roots_first_lem = r.0; is_balanced = n.0; is_grown = n.1 };
+      own = record { is_low = (passed c.before.before.before.before.before.before).0; is_padded = (passed c.before.before.before.before.before.before).1; roots_are_first = r.0; is_balanced = n.0; is_grown = n.1 };
       nodes_are = n.2;
       roots_are = r.1;
     }
