@@ -1,4 +1,4 @@
--- A space and the number, then a star where the neighbour is a shadow.
+-- A space and the number, then a star where the neighbour is a shadow. Assumes nothing.
 use Rattle.std.proofs.Common.{arith, [], ◌∷◌}
 use Rattle.format.specs.Answers.{answer_numbers}
 use Rattle.listing.specs.Neighbours.{star, neighbour_text}
@@ -16,11 +16,11 @@ pub put_field-end-requires : goal.put_field-end-requires
 put_field-end-requires c = fits (begin_neighbour (answer_numbers c.args.found) c.value-node.ensures c.requires)
 
 pub put_word-requires : goal.put_word-requires
-put_word-requires c = fits (shadow_left c.sort.ensures (node (goal.at.put_word-requires c).After-put_field-end) (omega (arith, c.if-sort-eq2.true)))
+put_word-requires c = fits (shadow_left c.sort.ensures (node (goal.at.put_word-requires c).After-put_field-end) (omega arith))
 
 pub returns-then-sort-eq2 : goal.returns-then-sort-eq2
 returns-then-sort-eq2 c =
-    finish (next (shadow_left c.sort.ensures (node (goal.at.returns-then-sort-eq2 c).After-put_field-end) (omega (arith, c.if-sort-eq2.true))) c.put_word.ensures)
+    finish (next (shadow_left c.sort.ensures (node (goal.at.returns-then-sort-eq2 c).After-put_field-end) (omega arith)) c.put_word.ensures)
 
 pub returns : goal.returns
-returns c = finish (real_left c.sort.ensures (node (goal.at.returns c).After-put_field-end) c.if-sort-eq2.false)
+returns c = finish (real_left c.sort.ensures (node (goal.at.returns c).After-put_field-end) (λ e. omega arith))

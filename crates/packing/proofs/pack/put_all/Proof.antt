@@ -32,17 +32,14 @@ lay-out-requires c κs =
 add-size-2 : tie.Need-overflow_add-size-2
 add-size-2 c = omega (arith, size_small c.requires (laid c))
 
-returns : tie.Need-returns-then-image-size
-returns c = uncleared_9 c.requires (laid c.before) (omega (arith, c.if-image-size.true))
-
 put-image-requires : tie.Need-put_image-requires
 put-image-requires c κs =
-    planned c.requires (laid c.before.before.before.before.before.before.before) (omega (arith, c.if-image-size.false))
+    planned c.requires (laid c.before.before.before.before.before.before.before) (omega arith)
 
 returns-2 : tie.Need-returns
 returns-2 c =
     let o = c.requires in
-    uncleared_done o (laid c.before.before.before.before.before.before.before.before.before.before.before.before) c.if-image-size.false (c.put_order.ensures _ o.walked.held) c.put_image.auto.work c.put_image.ensures.1 c.put_image.ensures.0
+    uncleared_done o (laid c.before.before.before.before.before.before.before.before.before.before.before.before) (omega arith) (c.put_order.ensures _ o.walked.held) c.put_image.auto.work c.put_image.ensures.1 c.put_image.ensures.0
 
 pub put_all_spec : {M : Type 1} → statement M
 put_all_spec =
@@ -56,7 +53,7 @@ put_all_spec =
     (λ c. search rules)
     add-size-2
     (λ c. search rules)
-    returns
+    (λ c. uncleared_9 c.requires (laid c.before) (omega arith))
     (λ c κs. search rules)
     put-image-requires
     (λ c. search rules)

@@ -23,11 +23,6 @@ returns c =
     let l = c.loop-left in
     lists_short _ _ l.at l.m l.left (l.left - 1) (omega arith) c.if-table-at.true ∙ l.invariant.2
 
-returns-2 : tie.Need-returns-then-m-gt-MAX_EDGES invariant-loop decreases-loop
-returns-2 c =
-    let l = c.loop-left in
-    count_above _ _ l.at l.m l.left (l.left - 1) (omega arith) (omega arith) _ c.word-k.ensures.0 c.if-m-gt-MAX_EDGES.true ∙ l.invariant.2
-
 returns-3 : tie.Need-returns-in-Bad invariant-loop decreases-loop
 returns-3 c =
     let l = c.loop-left in
@@ -54,7 +49,9 @@ lists_spec =
     returns
     (λ c κs. search rules)
     (λ c. search rules)
-    returns-2
+    (λ c.
+    let l = c.loop-left in
+    count_above _ _ l.at l.m l.left (l.left - 1) (omega arith) (omega arith) _ c.word-k.ensures.0 (omega arith) ∙ l.invariant.2)
     (λ c. search rules)
     (λ c κs. search rules)
     (λ c. search rules)
