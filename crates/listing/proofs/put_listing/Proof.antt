@@ -27,12 +27,10 @@ counted c =
 
 pub put_listing_spec : {M : Type 1} → statement M
 put_listing_spec =
-    tie.close (tie.spec (λ c κs. search rules)
-    (λ c. search rules)
-    (λ c. search rules)
+    tie.close (tie.spec (λ c κs. search rules) (λ c. search rules) (λ c. search rules)
     (λ c. absurd (omega (arith, refusal_some c.in_default.field-0, subst (Examines _ _) c.in_default.is c.examine.ensures, c.requires.0)))
     (λ c κs. (c.requires.0, laid c.before, fits (begin_listing (trits_of c.args.image.now) (shadows_of c.args.image.now) c.requires.1)))
     (λ c κs. search rules)
-    (λ c κs. (record { proper = c.requires.0; trytes = c.tryte_table-table.ensures; laid = laid c.before.before.before.before.before.before.before }, fits (counted c.before.before.before.before.before)))
+    (λ c κs. (record { proper = c.requires.0; trytes = c.tryte_table-table.ensures; laid = ((subst (Examines _ _) c.in-Proper.is c.examine.ensures).1) }, fits (counted c.before.before.before.before.before)))
     (λ c. search rules)
-    (λ c. finish (next (counted c.before.before.before.before.before.before.before.before) c.put_nodes.ensures)))
+    (λ c. finish (next (next (begin_listing (trits_of c.args.image.now) (shadows_of c.args.image.now) c.requires.1) c.put_counts-end.ensures) c.put_nodes.ensures)))

@@ -31,11 +31,7 @@ packed c =
 
 pub put_table_spec : {M : Type 1} → statement M
 put_table_spec =
-    tie.close (tie.spec (λ c. search rules)
-    (λ c. search rules)
-    (λ c. search rules)
-    (λ c κs. search rules)
-    (λ c. search rules)
+    tie.close (tie.spec (λ c. search rules) (λ c. search rules) (λ c. search rules) (λ c κs. search rules) (λ c. search rules)
     (λ c κs. subst (Room _ 0) (sym (refused c.before)) c.requires.1)
     (λ c. search rules)
     (λ c. (packed c.before).0)

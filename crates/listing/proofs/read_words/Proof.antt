@@ -16,16 +16,13 @@ decreases-loop input words₀ count i₀ words i = count - i
 
 pub read_words_spec : {M : Type 1} → statement M
 read_words_spec =
-    tie.close (tie.spec invariant-loop
-    decreases-loop
+    tie.close (tie.spec invariant-loop decreases-loop
     (λ c. over_none _ _ _ (words_many c.args.input.now c.requires.0) (omega (arith, c.requires.1)))
-    (λ c. omega arith)
-    (λ c κs. omega arith)
+    (λ c. omega arith) (λ c κs. omega arith)
     (λ c. omega (arith, c.get2.ensures.1))
     (λ c. omega arith)
     (λ c. omega (arith, over_length c.loop-i.invariant, c.requires.1))
-    (λ c. omega arith)
-    (λ c. omega arith)
+    (λ c. omega arith) (λ c. omega arith)
     (λ c. over_next c.loop-i.invariant c.loop-i-test.true _ (c.get2.ensures.0 ∙ word_at_lem c.args.input.now c.requires.0 _ c.loop-i-test.true))
     (λ c. over_length c.loop-i.invariant)
     (λ c. (sym (words_many c.args.input.now c.requires.0), over_done c.loop-i.invariant c.loop-i-test.false)))

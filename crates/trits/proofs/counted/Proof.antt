@@ -17,27 +17,27 @@ first_le c = omega (arith, div-add-mod c.args.q c.args.s.fan)
 
 returns : tie.Need-returns-then-t-lt2
 returns c =
-    let x = c.before.before.before in
-    rw c.entry.ensures (x.requires.0.sample x.args.t x.args.first x.args.q c.before.if-t-lt2.true x.requires.2 x.requires.3)
+    rw c.entry.ensures (c.requires.0.sample c.args.t c.args.first c.args.q c.if-t-lt2.true c.requires.2 c.requires.3)
 
-filled : (c : tie.After-entry-ones) → let a = c.before.before.before.before.args in Twos a.image.now a.s a.first a.q c.before.entry-zeros.result c.entry-ones.result
+filled : (c : tie.After-entry-ones) → let a = c.args in Twos a.image.now a.s a.first a.q c.entry-zeros.result c.entry-ones.result
 filled c =
-    let x = c.before.before.before.before in
-    let q = x.args.q in
-    twos x.requires.0 x.requires.2 (first_le x)
-    (rw (c.before.entry-zeros.ensures, ← add-zero (2 * q)) (x.requires.0.sample 0 x.args.first q (lit< tt) x.requires.2 x.requires.3))
-    (rw c.entry-ones.ensures (x.requires.0.sample 1 x.args.first q (lit< tt) x.requires.2 x.requires.3))
+    let q = c.args.q in
+    twos c.requires.0 c.requires.2 (first_le c.before.before.before.before)
+    (rw (c.entry-zeros.ensures, ← add-zero (2 * q)) (c.requires.0.sample 0 c.args.first q (lit< tt) c.requires.2 c.requires.3))
+    (rw c.entry-ones.ensures (c.requires.0.sample 1 c.args.first q (lit< tt) c.requires.2 c.requires.3))
 
 returns-2 : tie.Need-returns
-returns-2 c = let e : c.before.before.before.before.args.t ≡ 2 = omega arith in rw e (filled c).left
+returns-2 c = let e : c.args.t ≡ 2 = omega arith in rw e (filled c).left
 
 pub counted_spec : {M : Type 1} → statement M
 counted_spec =
-    tie.close (tie.spec
-    (λ c. omega (arith, low c.before))
+    tie.close (tie.spec (λ c. omega (arith, low c.before))
     (λ c. omega (arith, low c.before.before))
     (λ c κs. search rules) returns
     (λ c. omega (arith, low c.before.before))
     (λ c κs. search rules) (λ c κs. search rules)
     (λ c. first_le c.before.before.before.before)
-    (λ c. omega (arith, filled c)) (λ c. omega (arith, filled c)) (λ c. omega (arith, filled c)) returns-2)
+    (λ c. omega (arith, filled c))
+    (λ c. omega (arith, filled c))
+    (λ c. omega (arith, filled c))
+    returns-2)

@@ -21,44 +21,34 @@ room c = (first_last c.args.above c.requires.0 c.requires.2, last_few c.requires
 
 loop-holds : tie.Need-loop-len-init invariant-loop decreases-loop
 loop-holds c =
-    let x = c.before.before in
     elim c.if-room-len.branch [
-      | then-room-len w ↦ rw w.len-is (starts_cut x.args.above x.requires.0 x.requires.2 w.if-room-len.true)
-      | else-room-len w ↦ rw w.len-is (starts_whole x.args.above x.requires.0 x.requires.2 w.if-room-len.false)
+      | then-room-len w ↦ rw w.len-is (starts_cut c.args.above c.requires.0 c.requires.2 w.if-room-len.true)
+      | else-room-len w ↦ rw w.len-is (starts_whole c.args.above c.requires.0 c.requires.2 w.if-room-len.false)
     ]
 
--- the call
-abbrev start : tie.At-loop-len invariant-loop decreases-loop → tie.Start invariant-loop decreases-loop
-start l = l.before.before.before
-
 add-mid : tie.Need-overflow_add-mid invariant-loop decreases-loop
-add-mid c = let l = c.before.before in omega (arith, l.loop-len.invariant, room (start l))
+add-mid c = omega (arith, c.loop-len.invariant, room c.before.before.before.before.before)
 
 counted-requires : tie.Need-counted-requires invariant-loop decreases-loop
 counted-requires c κs =
-    let l = c.before.before in
-    let x = start l in
-    let v = l.loop-len.invariant in
-    (x.requires.0, x.requires.1, omega (arith, v), mid_first x.args.above x.requires.0 x.requires.2 (l.loop-len.lo + l.loop-len.len / 2) (omega (arith, v)) (omega (arith, v)))
+    let v = c.loop-len.invariant in
+    (c.requires.0, c.requires.1, omega (arith, v), mid_first c.args.above c.requires.0 c.requires.2 (c.loop-len.lo + c.loop-len.len / 2) (omega (arith, v)) (omega (arith, v)))
 
 -- the sum is the rank before the middle multiple
-reading : (c : tie.After-counted invariant-loop decreases-loop) → let l = c.before.before.before in let a = (start l).args in
-    a.above.before + c.counted.result ≡ rank a.t (trits_of a.image.now) (a.s.step * (l.loop-len.lo + l.loop-len.len / 2))
+reading : (c : tie.After-counted invariant-loop decreases-loop) → let a = c.args in
+    a.above.before + c.counted.result ≡ rank a.t (trits_of a.image.now) (a.s.step * (c.loop-len.lo + c.loop-len.len / 2))
 reading c =
-    let x = start c.before.before.before in
-    omega (arith, c.counted.ensures, (in_steps x.args.above x.requires.0 x.requires.2).counted)
+    omega (arith, c.counted.ensures, (in_steps c.args.above c.requires.0 c.requires.2).counted)
 
 add-x : tie.Need-overflow_add-x invariant-loop decreases-loop
 add-x c =
-    let l = c.before.before.before in
-    let x = start l in
-    omega (arith, reading c, rank_few x.requires.0.whole x.args.t (x.args.s.step * (l.loop-len.lo + l.loop-len.len / 2)))
+    omega (arith, reading c, rank_few c.requires.0.whole c.args.t (c.args.s.step * (c.loop-len.lo + c.loop-len.len / 2)))
 
 loop-again : tie.Need-loop-len-preserved-then-x-j invariant-loop decreases-loop
-loop-again c = upper c.before.before.before.before.loop-len.invariant c.before.before.before.loop-len-test.true (reading c.before) c.if-x-j.true
+loop-again c = upper c.loop-len.invariant c.loop-len-test.true (reading c.before) c.if-x-j.true
 
 loop-again-2 : tie.Need-loop-len-preserved invariant-loop decreases-loop
-loop-again-2 c = lower c.before.before.before.before.loop-len.invariant c.before.before.before.loop-len-test.true (reading c.before) c.if-x-j.false
+loop-again-2 c = lower c.loop-len.invariant c.loop-len-test.true (reading c.before) c.if-x-j.false
 
 pub halve_spec : {M : Type 1} → statement M
 halve_spec =
@@ -67,8 +57,8 @@ halve_spec =
     (λ c. (room c.before).0)
     (λ c. omega (arith, room c.before.before))
     loop-holds add-mid counted-requires add-x (λ c. omega arith)
-    (λ c. omega (arith, c.before.before.before.loop-len-test))
+    (λ c. omega (arith, c.loop-len-test))
     loop-again
-    (λ c. omega (arith, c.before.before.before.loop-len-test))
+    (λ c. omega (arith, c.loop-len-test))
     loop-again-2
-    (λ c. halved c.before.loop-len.invariant c.loop-len-test.false))
+    (λ c. halved c.loop-len.invariant c.loop-len-test.false))

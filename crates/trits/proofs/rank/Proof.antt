@@ -12,26 +12,22 @@ use Rattle.trits.proofs.rank.Statement.{statement}
 use Rattle.trits.proofs.rank.Tie as tie
 
 -- what the zeros and ones leave
-twos : (c : tie.After-rank_both-before) → let x = c.before.before in
-    c.rank_both-before.result.zeros + c.rank_both-before.result.ones + rank 2 (trits_of x.args.image.now) x.args.p ≡ x.args.p
+twos : (c : tie.After-rank_both-before) → c.rank_both-before.result.zeros + c.rank_both-before.result.ones + rank 2 (trits_of c.args.image.now) c.args.p ≡ c.args.p
 twos c =
-    let s = c.before in
-    let x = s.before in
-    let b = x.args.image.now in
+    let b = c.args.image.now in
     let e = c.rank_both-before.ensures in
-    rw e (rank_three (trits_of b) (proper (accepted s.shared_slice_known-1.given x.requires.0 x.requires.2).whole).threes x.args.p x.requires.4)
+    rw e (rank_three (trits_of b) (proper (accepted c.shared_slice_known-1.given c.requires.0 c.requires.2).whole).threes c.args.p c.requires.4)
 
 left : tie.Need-returns
 left c =
-    let s = c.before.before in
-    let e : s.before.before.args.t ≡ 2 = omega (arith, s.before.before.requires.3) in
-    rw e (omega (arith, twos s))
+    let e : c.args.t ≡ 2 = omega (arith, c.requires.3) in
+    rw e (omega (arith, twos c.before.before))
 
 pub rank_spec : {M : Type 1} → statement M
 rank_spec =
     tie.close (tie.spec (λ c κs. search rules)
-    (λ c. rw c.if-t-eq0.true (ap (λ r. r.zeros) c.before.rank_both-before.ensures))
-    (λ c. rw c.if-t-eq1.true (ap (λ r. r.ones) c.before.before.rank_both-before.ensures))
+    (λ c. rw c.if-t-eq0.true (ap (λ r. r.zeros) c.rank_both-before.ensures))
+    (λ c. rw c.if-t-eq1.true (ap (λ r. r.ones) c.rank_both-before.ensures))
     (λ c. omega (arith, twos c.before.before))
     (λ c. omega (arith, twos c.before.before))
     left)

@@ -12,44 +12,37 @@ use Rattle.trits.proofs.rank_block.Tie as tie
 
 far-requires : tie.Need-counted-six-requires
 far-requires c κs =
-    let x = c.before.before in
-    let S = far_sampled x.requires.0 in
-    rw c.far.ensures (S, x.requires.1, omega (arith, S.last_is), omega (arith, few x.requires.0.whole))
+    let S = far_sampled c.requires.0 in
+    rw c.far.ensures (S, c.requires.1, omega (arith, S.last_is), omega (arith, few c.requires.0.whole))
 
 middle-requires : tie.Need-counted-seven-requires
 middle-requires c κs =
-    let x = c.before.before.before.before in
-    let S = middle_sampled x.requires.0 in
-    rw c.middle.ensures (S, x.requires.1, omega (arith, S.last_is), omega arith)
+    let S = middle_sampled c.requires.0 in
+    rw c.middle.ensures (S, c.requires.1, omega (arith, S.last_is), omega arith)
 
 near-requires : tie.Need-counted-eight-requires
 near-requires c κs =
-    let x = c.before.before.before.before.before.before in
-    let S = near_sampled x.requires.0 in
-    rw c.near.ensures (S, x.requires.1, omega (arith, S.last_is), omega arith)
-
--- the call
-abbrev start : tie.After-counted-six → tie.Start
-start c = c.before.before.before
+    let S = near_sampled c.requires.0 in
+    rw c.near.ensures (S, c.requires.1, omega (arith, S.last_is), omega arith)
 
 abbrev sum : tie.After-counted-eight → ℕ
-sum c = let two = c.before.before in two.before.before.counted-six.result + two.counted-seven.result + c.counted-eight.result
+sum c = c.counted-six.result + c.counted-seven.result + c.counted-eight.result
 
-summed : (c : tie.After-counted-eight) → let a = (start c.before.before.before.before).args in sum c ≡ rank a.t (trits_of a.image.now) (25 * a.g)
+summed : (c : tie.After-counted-eight) → let a = c.args in sum c ≡ rank a.t (trits_of a.image.now) (25 * a.g)
 summed c =
-    let two = c.before.before in
-    let one = two.before.before in
-    let a = (start one).args in
+    let a = c.args in
     three_samples a.t (trits_of a.image.now) a.g _ _ _
-    (rw one.before.far.ensures at one.counted-six.ensures)
-    (rw two.before.middle.ensures at two.counted-seven.ensures)
-    (rw c.before.near.ensures at c.counted-eight.ensures)
+    (rw c.far.ensures at c.counted-six.ensures)
+    (rw c.middle.ensures at c.counted-seven.ensures)
+    (rw c.near.ensures at c.counted-eight.ensures)
 
 fits : (c : tie.After-counted-eight) → sum c ≤ 125536
-fits c = let x = start c.before.before.before.before in omega (arith, summed c, rank_few x.requires.0.whole x.args.t (25 * x.args.g))
+fits c = omega (arith, summed c, rank_few c.requires.0.whole c.args.t (25 * c.args.g))
 
 pub rank_block_spec : {M : Type 1} → statement M
 rank_block_spec =
     tie.close (tie.spec (λ c. search rules) (λ c. search rules) (λ c. search rules) (λ c. search rules) (λ c κs. search rules) far-requires
-    (λ c κs. search rules) middle-requires (λ c κs. search rules) near-requires (λ c. omega (arith, fits c)) (λ c. omega (arith, fits c))
+    (λ c κs. search rules) middle-requires (λ c κs. search rules) near-requires
+    (λ c. omega (arith, fits c))
+    (λ c. omega (arith, fits c))
     summed)

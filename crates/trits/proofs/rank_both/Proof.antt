@@ -13,43 +13,34 @@ use Rattle.trits.proofs.Levels.{accepted}
 use Rattle.trits.proofs.rank_both.Statement.{statement}
 use Rattle.trits.proofs.rank_both.Tie as tie
 
-laid : (c : tie.After-shared_slice_known-1) → Laid c.before.args.image.now c.before.args.lay
-laid c = accepted c.shared_slice_known-1.given c.before.requires.0 c.before.requires.2
+laid : (c : tie.After-shared_slice_known-1) → Laid c.args.image.now c.args.lay
+laid c = accepted c.shared_slice_known-1.given c.requires.0 c.requires.2
 
 trytes-require : tie.Need-rank_trytes-whole-requires
 trytes-require c κs =
-    let s = c.before.before in
-    let x = s.before in
-    let p = x.args.p in
+    let p = c.args.p in
     let e : 5 * (5 * (p / 25)) ≡ 25 * (p / 25) = omega arith in
-    (laid s, x.requires.1, omega arith, omega arith, omega arith, rw e (both c.before.rank_block-zeros.ensures c.rank_block-ones.ensures))
-
--- the image is known
-abbrev known : tie.After-rank_trytes-whole → tie.After-shared_slice_known-1
-known c = c.before.before.before
+    (laid c.before.before, c.requires.1, omega arith, omega arith, omega arith, rw e (both c.rank_block-zeros.ensures c.rank_block-ones.ensures))
 
 whole : tie.Need-returns-then-r-eq0
 whole c =
-    let p = (known c.before).before.args.p in
+    let p = c.args.p in
     let e : 5 * (p / 5) ≡ p = omega arith in
-    rw e at c.before.rank_trytes-whole.ensures
+    rw e at c.rank_trytes-whole.ensures
 
-summed : (c : tie.After-tryte_front-part) → let s = c.before.before.before in let x = (known s).before.args in
-    let w = s.rank_trytes-whole.result in let f = c.tryte_front-part.result in
+summed : (c : tie.After-tryte_front-part) → let x = c.args in
+    let w = c.rank_trytes-whole.result in let f = c.tryte_front-part.result in
     ◌≡◌ (record { zeros = w.zeros + f.zeros; ones = w.ones + f.ones }) (ranks_of (trits_of x.image.now) x.p)
 summed c =
-    let t = c.before in
-    let s = t.before.before in
-    let x = (known s).before in
-    let p = x.args.p in
+    let p = c.args.p in
     let e : 5 * (p / 5) + p % 5 ≡ p = omega arith in
-    rw e at (ranks_more t.tryte-x.ensures (p % 5) (omega arith) (omega (arith, x.requires)) _ _ s.rank_trytes-whole.ensures c.tryte_front-part.ensures)
+    rw e at (ranks_more c.tryte-x.ensures (p % 5) (omega arith) (omega (arith, c.requires)) _ _ c.rank_trytes-whole.ensures c.tryte_front-part.ensures)
 
-few : (c : tie.After-tryte_front-part) → let w = c.before.before.before.rank_trytes-whole.result in let f = c.tryte_front-part.result in
+few : (c : tie.After-tryte_front-part) → let w = c.rank_trytes-whole.result in let f = c.tryte_front-part.result in
     (w.zeros + f.zeros ≤ 125536) × (w.ones + f.ones ≤ 125536)
 few c =
-    let s = known c.before.before.before in
-    let p = s.before.args.p in
+    let s = c.before.before.before.before.before.before in
+    let p = c.args.p in
     let e = summed c in
     (omega (arith, ap (λ r. r.zeros) e, rank_few (laid s).whole 0 p), omega (arith, ap (λ r. r.ones) e, rank_few (laid s).whole 1 p))
 
@@ -57,10 +48,10 @@ pub rank_both_spec : {M : Type 1} → statement M
 rank_both_spec =
     tie.close (tie.spec (λ c. search rules)
     (λ c κs. (laid c, lit< tt, omega arith))
-    (λ c κs. (laid c.before, lit< tt, omega (arith, c.before.before.requires)))
+    (λ c κs. (laid c.before, lit< tt, omega (arith, c.requires)))
     trytes-require whole
-    (λ c κs. let s = known c.before in (laid s, omega (arith, s.before.requires)))
-    (λ c κs. ((known c.before.before).before.requires.1, c.tryte-x.ensures.low, omega arith))
+    (λ c κs. (laid c.before.before.before.before, omega (arith, c.requires)))
+    (λ c κs. (c.requires.1, c.tryte-x.ensures.low, omega arith))
     (λ c. omega (arith, (few c.before.before).0))
     (λ c. omega (arith, (few c.before.before.before.before).1))
     (λ c. summed c.before.before.before.before))

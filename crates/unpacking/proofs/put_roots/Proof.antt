@@ -20,13 +20,8 @@ loop-again c =
 
 pub put_roots_spec : {M : Type 1} → statement M
 put_roots_spec =
-    tie.close (tie.spec invariant-loop
-    decreases-loop
+    tie.close (tie.spec invariant-loop decreases-loop
     (λ c. listed_none _ _ _ c.requires.0)
-    (λ c. omega arith)
-    (λ c. omega arith)
-    put-word-requires
-    (λ c. omega arith)
-    loop-again
+    (λ c. omega arith) (λ c. omega arith) put-word-requires (λ c. omega arith) loop-again
     (λ c. listed_length c.loop-i.invariant)
     (λ c. listed_all c.loop-i.invariant c.loop-i-test.false))

@@ -37,15 +37,10 @@ returns c =
 
 pub put_rows_spec : {M : Type 1} → statement M
 put_rows_spec =
-    tie.close (tie.spec invariant-loop
-    decreases-loop
+    tie.close (tie.spec invariant-loop decreases-loop
     (λ c κs. omega (arith, sizes c.requires.0))
     (λ c. omega (arith, sizes c.requires.0))
-    loop-holds
-    put-trit-requires
-    (λ c. omega arith)
-    (λ c. omega arith)
-    loop-again
+    loop-holds put-trit-requires (λ c. omega arith) (λ c. omega arith) loop-again
     (λ c. omega (arith, sizes c.requires.0))
     put-word-requires-2
     (λ c. omega (arith, filled_length c.loop-p.invariant.filled))

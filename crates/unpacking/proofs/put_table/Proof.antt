@@ -24,9 +24,4 @@ returns c =
     ∙ roots_last c.requires.0 c.args.table.now c.requires.1
 
 pub put_table_spec : {M : Type 1} → statement M
-put_table_spec = tie.close (tie.spec sub_at
-    (λ c. search rules)
-    (λ c κs. search rules)
-    put-roots-requires
-    (λ c. search rules)
-    returns)
+put_table_spec = tie.close (tie.spec sub_at (λ c. search rules) (λ c κs. search rules) put-roots-requires (λ c. search rules) returns)

@@ -57,19 +57,13 @@ put_trit_spec =
     (λ c. omega (arith, last c.requires.0))
     (λ c. omega (arith, last c.requires.0))
     (λ c. omega (arith, last c.requires.0))
-    put-word-requires
-    (λ c. search rules)
-    returns
-    (λ c. search rules)
-    (λ c. search rules)
+    put-word-requires (λ c. search rules) returns (λ c. search rules) (λ c. search rules)
     (λ c. omega (arith, few c))
     (λ c κs. omega (arith, few c.before))
-    (λ c. search rules)
-    returns-2
+    (λ c. search rules) returns-2
     (λ c. omega (arith, inside c))
     (λ c. omega (arith, inside c.before))
     (λ c κs. inside c.before)
     (λ c κs. search rules)
-    (λ c. omega (arith, inside c.before.before.before.before.before.before))
-    (λ c. search rules)
-    returns-3)
+    (λ c. omega (arith, (shadow_inside c.requires.0 (two c.before.before.before.before.before.before))))
+    (λ c. search rules) returns-3)

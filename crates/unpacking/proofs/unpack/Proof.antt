@@ -32,12 +32,5 @@ returns-3 c =
 
 pub unpack_spec : {M : Type 1} → statement M
 unpack_spec =
-    tie.close (tie.spec (λ c κs. search rules)
-    (λ c. search rules)
-    (λ c. search rules)
-    returns
-    put-table-requires
-    (λ c. omega arith)
-    returns-2
-    (λ c. search rules)
-    returns-3)
+    tie.close (tie.spec (λ c κs. search rules) (λ c. search rules) (λ c. search rules) returns put-table-requires (λ c. omega arith) returns-2
+    (λ c. search rules) returns-3)

@@ -16,11 +16,5 @@ refused c =
 
 pub ask_spec : {M : Type 1} → statement M
 ask_spec =
-    tie.close (tie.spec (λ c κs. search rules)
-    (λ c. search rules)
-    (λ c. search rules)
-    (λ c κs. search rules)
-    (λ c. search rules)
-    ran
-    (λ c. search rules)
+    tie.close (tie.spec (λ c κs. search rules) (λ c. search rules) (λ c. search rules) (λ c κs. search rules) (λ c. search rules) ran (λ c. search rules)
     refused)

@@ -40,14 +40,9 @@ returns c =
 
 pub ask_all_spec : {M : Type 1} → statement M
 ask_all_spec =
-    tie.close (tie.spec invariant-loop
-    decreases-loop
-    loop-holds
-    (λ c. omega arith)
-    ask-one-requires
+    tie.close (tie.spec invariant-loop decreases-loop loop-holds (λ c. omega arith) ask-one-requires
     (λ c. omega (arith, answered_few (turn c.before.before)))
-    (λ c. omega arith)
-    (λ c. omega arith)
+    (λ c. omega arith) (λ c. omega arith)
     (λ c. turn c.before.before)
     (λ c. answered_length c.loop-i.invariant)
     returns)

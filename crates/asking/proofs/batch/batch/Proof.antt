@@ -33,10 +33,6 @@ full c =
 
 pub batch_spec : {M : Type 1} → statement M
 batch_spec =
-    tie.close (tie.spec not_threes
-    too_short
-    (λ c κs. search rules)
-    run-requires
-    (λ c. search rules)
+    tie.close (tie.spec not_threes too_short (λ c κs. search rules) run-requires (λ c. search rules)
     (λ c. c.run.ensures)
     full)

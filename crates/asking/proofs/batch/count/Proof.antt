@@ -10,11 +10,5 @@ returns c = let x = c.args in tally_is x.tally x.q x.found _ _ _ (omega arith) (
 
 pub count_spec : {M : Type 1} → statement M
 count_spec =
-    tie.close (tie.spec (λ c. search rules)
-    (λ c. search rules)
-    (λ c. search rules)
-    (λ c. search rules)
-    (λ c. search rules)
-    (λ c. search rules)
-    (λ c. search rules)
-    returns)
+    tie.close (tie.spec (λ c. search rules) (λ c. search rules) (λ c. search rules) (λ c. search rules) (λ c. search rules) (λ c. search rules)
+    (λ c. search rules) returns)

@@ -26,17 +26,5 @@ refuses c =
 
 pub put_answer_spec : {M : Type 1} → statement M
 put_answer_spec =
-    tie.close (tie.spec (λ c. search rules)
-    (λ c κs. search rules)
-    (λ c. search rules)
-    (λ c κs. search rules)
-    (λ c κs. search rules)
-    (λ c. search rules)
-    (λ c κs. search rules)
-    (λ c κs. search rules)
-    (λ c. search rules)
-    value
-    (λ c. search rules)
-    listed
-    (λ c. search rules)
-    refuses)
+    tie.close (tie.spec (λ c. search rules) (λ c κs. search rules) (λ c. search rules) (λ c κs. search rules) (λ c κs. search rules) (λ c. search rules)
+    (λ c κs. search rules) (λ c κs. search rules) (λ c. search rules) value (λ c. search rules) listed (λ c. search rules) refuses)

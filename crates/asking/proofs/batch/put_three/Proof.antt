@@ -14,13 +14,5 @@ slice-write-answers-2 c = simp length-set (omega (arith, c.requires))
 
 pub put_three_spec : {M : Type 1} → statement M
 put_three_spec =
-    tie.close (tie.spec (λ c. search rules)
-    (λ c. search rules)
-    (λ c. search rules)
-    (λ c. search rules)
-    slice-write-answers-2
-    (λ c. search rules)
-    (λ c. search rules)
-    (λ c. search rules)
-    (λ c. search rules)
-    returns)
+    tie.close (tie.spec (λ c. search rules) (λ c. search rules) (λ c. search rules) (λ c. search rules) slice-write-answers-2 (λ c. search rules)
+    (λ c. search rules) (λ c. search rules) (λ c. search rules) returns)

@@ -33,17 +33,11 @@ next-requires c κs =
     (c.requires.0, mark_inside (trits_of b) (shadows_of b) _ _ (upto c.before))
 
 returns : tie.Need-returns
-returns c = let m = c.before.before in
+returns c =
+    let m = c.before.before in
     group_bounds (right c.requires.0) c.args.i _ _ c.requires.1 (here m) (upto m) c.start-first.ensures c.start-next.ensures
 
 pub find_group_spec : {M : Type 1} → statement M
 find_group_spec =
-    tie.close (tie.spec (λ c κs. search rules)
-    (λ c κs. search rules)
-    (λ c κs. search rules)
-    (λ c. search rules)
-    (λ c κs. search rules)
-    (λ c. search rules)
-    first-requires
-    next-requires
-    returns)
+    tie.close (tie.spec (λ c κs. search rules) (λ c κs. search rules) (λ c κs. search rules) (λ c. search rules) (λ c κs. search rules)
+    (λ c. search rules) first-requires next-requires returns)

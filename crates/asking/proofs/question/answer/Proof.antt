@@ -36,7 +36,5 @@ answer_spec =
     (λ c κs. (laid c.before.before, c.requires.1))
     (λ c κs. (laid c.before.before, c.requires.1))
     (λ c κs. (laid c.before.before, c.requires.1, omega (arith, c.in_default.in_default-own.rest), omega (arith, c.if-kind-gt6.false)))
-    returns-2
-    returns-3
-    returns-4
+    returns-2 returns-3 returns-4
     (λ c. c.of_node.ensures))

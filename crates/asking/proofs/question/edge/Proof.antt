@@ -33,7 +33,8 @@ shadow-listed c κs =
     omega (arith, c.shadow.ensures, shadows_small (trits_of b) (shadows_of b) (right c.requires.0) _ ((left c.before).inside (two c.before)))
 
 shadow : tie.Need-returns
-shadow c = let e = c.before.before in
+shadow c =
+    let e = c.before.before in
     c.listed-2.ensures
     ∙ edge_shadow (right c.requires.0) c.args.p (two e) (c.shadow.ensures ∙ ap (λ k. get_or (shadows_of c.args.image.now) k 0) (left e).left) (omega arith)
 
@@ -45,5 +46,4 @@ edge_spec =
     (λ c. omega (arith, (left c).room))
     (λ c. omega (arith, (left c).room))
     (λ c κs. (c.requires.0, (left c).inside (two c)))
-    shadow-listed
-    shadow)
+    shadow-listed shadow)

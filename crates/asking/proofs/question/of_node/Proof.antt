@@ -44,13 +44,9 @@ returns-6 c =
 
 pub of_node_spec : {M : Type 1} → statement M
 of_node_spec =
-    tie.close (tie.spec no_node
-    past-nodes
+    tie.close (tie.spec no_node past-nodes
     (λ c κs. (node c.before, c.requires.1))
     (λ c κs. (node c.before, c.requires.1))
     (λ c κs. node c.before)
     (λ c κs. (node c.before, c.requires.1))
-    returns-3
-    returns-4
-    returns-5
-    returns-6)
+    returns-3 returns-4 returns-5 returns-6)

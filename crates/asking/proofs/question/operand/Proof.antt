@@ -54,14 +54,6 @@ there c =
 
 pub operand_spec : {M : Type 1} → statement M
 operand_spec =
-    tie.close (tie.spec no-zeroth
-    place-requires
-    sub-trits
-    past_end
+    tie.close (tie.spec no-zeroth place-requires sub-trits past_end
     (λ c. omega (arith, inside c))
-    trit-requires
-    at_zero
-    rank-requires
-    other-node
-    edge-requires
-    there)
+    trit-requires at_zero rank-requires other-node edge-requires there)

@@ -40,11 +40,7 @@ returns c =
 
 pub operands_spec : {M : Type 1} → statement M
 operands_spec =
-    tie.close (tie.spec second-outside
-    place-requires
-    add-place
-    next-requires
+    tie.close (tie.spec second-outside place-requires add-place next-requires
     (λ c. omega (arith, apart c))
     (λ c. omega (arith, apart c))
-    value-requires
-    returns)
+    value-requires returns)

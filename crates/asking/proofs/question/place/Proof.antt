@@ -20,8 +20,4 @@ found c =
     select_some _ _ _ _ (sym (ap found_place (sym c.in-At.is) ∙ c.select.ensures))
 
 pub place_spec : {M : Type 1} → statement M
-place_spec = tie.close (tie.spec select-requires
-    (λ c. search rules)
-    (λ c. search rules)
-    nothing
-    found)
+place_spec = tie.close (tie.spec select-requires (λ c. search rules) (λ c. search rules) nothing found)

@@ -36,8 +36,4 @@ returns c =
     ∙ sym (rank_reply (trits_of c.args.image.now) [] c.args.a c.args.b (omega (arith, c.if-a-gt2.false)) (omega (arith, c.if-trits-b.false, trits_is c.requires.0)))
 
 pub ranked_spec : {M : Type 1} → statement M
-ranked_spec = tie.close (tie.spec first-outside
-    second-outside
-    rank-requires
-    value-requires
-    returns)
+ranked_spec = tie.close (tie.spec first-outside second-outside rank-requires value-requires returns)

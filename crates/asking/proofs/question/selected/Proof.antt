@@ -37,10 +37,4 @@ returns c = c.value.ensures ∙ select_value _ _ _ (omega (arith, c.if-a-gt2.fal
 
 pub selected_spec : {M : Type 1} → statement M
 selected_spec =
-    tie.close (tie.spec first-outside
-    select-requires
-    (λ c. search rules)
-    (λ c. search rules)
-    second-outside
-    value-requires
-    returns)
+    tie.close (tie.spec first-outside select-requires (λ c. search rules) (λ c. search rules) second-outside value-requires returns)

@@ -54,8 +54,4 @@ shadow_user_spec =
     (λ c. omega (arith, counted c))
     past
     (λ c. omega (arith, c.requires.2))
-    add-place
-    place-requires
-    rank-requires
-    listed-requires
-    there)
+    add-place place-requires rank-requires listed-requires there)

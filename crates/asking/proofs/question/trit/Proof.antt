@@ -34,8 +34,4 @@ returns c =
     ∙ rw c.if-b-ne0.false (sym (trit_reply (trits_of c.args.image.now) [] c.args.a (omega (arith, c.if-trits-a.false, trits_is c.requires))))
 
 pub trit_spec : {M : Type 1} → statement M
-trit_spec = tie.close (tie.spec first-outside
-    second-outside
-    trit-requires
-    value-requires
-    returns)
+trit_spec = tie.close (tie.spec first-outside second-outside trit-requires value-requires returns)

@@ -49,13 +49,6 @@ real c =
 
 pub user_spec : {M : Type 1} → statement M
 user_spec =
-    tie.close (tie.spec no-zeroth
-    root-requires
-    of-root
+    tie.close (tie.spec no-zeroth root-requires of-root
     (λ c. omega (arith, c.if-b-eq0.false))
-    other-requires
-    of_other
-    place-requires
-    rank-requires
-    listed-requires
-    real)
+    other-requires of_other place-requires rank-requires listed-requires real)

@@ -44,7 +44,4 @@ uses_spec =
     group-requires
     (λ c. omega (arith, counted c))
     (λ c. omega (arith, counted c.before, shadows_few (right c.requires.laid)))
-    real-requires
-    real
-    root-requires
-    root)
+    real-requires real root-requires root)

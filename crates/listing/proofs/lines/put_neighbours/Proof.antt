@@ -34,11 +34,7 @@ turn c = part_next _ _ _ c.loop-b.invariant c.loop-b-test.true (ap neighbour_tex
 
 pub put_neighbours_spec : {M : Type 1} → statement M
 put_neighbours_spec =
-    tie.close (tie.spec invariant-loop
-    decreases-loop
-    (λ c. search rules)
-    (λ c κs. search rules)
-    (λ c κs. search rules)
+    tie.close (tie.spec invariant-loop decreases-loop (λ c. search rules) (λ c κs. search rules) (λ c κs. search rules)
     (λ c κs. fits (begin_two c.args.sign.now _ c.requires.2))
     (λ c. begin_neighbours _ _ _ (c.value-count.ensures ∙ ap (λ (r : Reply). r.value) c.answer.ensures) (fits (marked c.before.before)))
     (λ c. search rules)

@@ -26,8 +26,7 @@ small c = let p = c.requires.0 in omega (arith, counts_small (accepted c.shared_
 
 pub put_nodes_spec : {M : Type 1} → statement M
 put_nodes_spec =
-    tie.close (tie.spec invariant-loop
-    decreases-loop
+    tie.close (tie.spec invariant-loop decreases-loop
     (λ c. omega (arith, small c.before))
     (λ c. begin_nodes _ c.requires.0.laid c.requires.1)
     (λ c. omega (arith, small c.before.before.before))

@@ -8,10 +8,7 @@ use Rattle.listing.proofs.lines.sort.Tie as tie
 
 pub sort_spec : {M : Type 1} → statement M
 sort_spec =
-    tie.close (tie.spec (λ c. search rules)
-    (λ c. search rules)
-    (λ c κs. search rules)
-    (λ c. search rules)
+    tie.close (tie.spec (λ c. search rules) (λ c. search rules) (λ c κs. search rules) (λ c. search rules)
     (λ c. sym (ap (λ (a : Answer). (answer_numbers a).sort) c.in-Value.is))
     (λ c. c.sort_number.ensures ∙ sym (ap (λ (a : Answer). (answer_numbers a).sort) c.in-Listed.is))
     (λ c. sym (ap (λ (a : Answer). (answer_numbers a).sort) c.in-Refused.is)))

@@ -8,9 +8,5 @@ use Rattle.listing.proofs.lines.value.Tie as tie
 
 pub value_spec : {M : Type 1} → statement M
 value_spec =
-    tie.close (tie.spec (λ c. search rules)
-    (λ c. search rules)
-    (λ c. search rules)
-    (λ c. search rules)
-    (λ c. search rules)
+    tie.close (tie.spec (λ c. search rules) (λ c. search rules) (λ c. search rules) (λ c. search rules) (λ c. search rules)
     (λ c. sym (ap (λ (a : Answer). (answer_numbers a).value) c.in-Refused.is)))

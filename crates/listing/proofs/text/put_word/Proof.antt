@@ -14,14 +14,11 @@ decreases-loop text₀ at word i₀ text i = length word - i
 
 pub put_word_spec : {M : Type 1} → statement M
 put_word_spec =
-    tie.close (tie.spec invariant-loop
-    decreases-loop
+    tie.close (tie.spec invariant-loop decreases-loop
     (λ c. copied_none c.requires)
-    (λ c. omega arith)
-    (λ c. omega arith)
+    (λ c. omega arith) (λ c. omega arith)
     (λ c. omega (arith, copied_length c.loop-i.invariant))
-    (λ c. omega arith)
-    (λ c. omega arith)
+    (λ c. omega arith) (λ c. omega arith)
     (λ c. copied_next c.loop-i.invariant c.loop-i-test.true)
     (λ c. omega arith)
     (λ c. copied_length c.loop-i.invariant)

@@ -1,15 +1,11 @@
 -- `image::put_marks` meets its contract: sections 3 and 4, one behind the other, and section 9. Assumes nothing.
 use native.Mathlib.Omega.{arith}
 use borrow.Author.Rules.{rules}
-use lib.ListN.{length}
 use Rattle.format.specs.Image.{section3, section4, section9}
 use Rattle.format.proofs.Sums.{shadows_few}
-use Rattle.packing.proofs.ImageLaws.{Within, few_nodes, sized, offsets, within, marks_put}
+use Rattle.packing.proofs.ImageLaws.{few_nodes, sized, offsets, within, marks_put}
 use Rattle.packing.proofs.image.put_marks.Statement.{statement}
 use Rattle.packing.proofs.image.put_marks.Tie as tie
-
-fit : (x : tie.Start) → Within x.args.lay (length x.args.image.now)
-fit x = within x.requires.2
 
 put-marks-requires : tie.Need-put_marks-requires
 put-marks-requires c κs =
@@ -40,29 +36,26 @@ returns c =
 
 pub put_marks_spec : {M : Type 1} → statement M
 put_marks_spec =
-    tie.close (tie.spec (λ c. omega (arith, fit c.before.before.before))
-    (λ c. omega (arith, fit c.before.before.before.before))
-    (λ c κs. omega (arith, fit c.before.before.before.before))
-    (λ c. omega (arith, fit c.before.before.before.before.before.before.before))
-    (λ c. omega (arith, fit c.before.before.before.before.before.before.before))
-    (λ c. omega (arith, fit c.before.before.before.before.before.before.before))
+    tie.close (tie.spec (λ c. omega (arith, within c.requires.2))
+    (λ c. omega (arith, within c.requires.2))
+    (λ c κs. omega (arith, within c.requires.2))
+    (λ c. omega (arith, within c.requires.2))
+    (λ c. omega (arith, within c.requires.2))
+    (λ c. omega (arith, within c.requires.2))
     put-marks-requires
     (λ c. let d = c.requires.2 in omega (arith, within d, (offsets d).at5_is, (sized d).size_is 3))
-    (λ c. omega (arith, fit c.before.before.before.before.before.before.before.before.before.before.before.before.before))
-    (λ c. omega (arith, fit c.before.before.before.before.before.before.before.before.before.before.before.before.before.before))
-    (λ c κs. omega (arith, fit c.before.before.before.before.before.before.before.before.before.before.before.before.before.before))
-    (λ c. omega (arith, fit c.before.before.before.before.before.before.before.before.before.before.before.before.before.before.before.before.before))
-    (λ c. omega (arith, fit c.before.before.before.before.before.before.before.before.before.before.before.before.before.before.before.before.before))
-    (λ c. omega (arith, fit c.before.before.before.before.before.before.before.before.before.before.before.before.before.before.before.before.before))
+    (λ c. omega (arith, within c.requires.2))
+    (λ c. omega (arith, within c.requires.2))
+    (λ c κs. omega (arith, within c.requires.2))
+    (λ c. omega (arith, within c.requires.2))
+    (λ c. omega (arith, within c.requires.2))
+    (λ c. omega (arith, within c.requires.2))
     put-starts-requires
     (λ c. omega (arith, few_nodes c.requires.2))
     (λ c. omega (arith, few_nodes c.requires.2))
-    (λ c. omega (arith, fit c.before.before.before.before.before.before.before.before.before.before.before.before.before.before.before.before.before.before.before.before.before, c.well_formed))
-    (λ c. omega (arith, fit c.before.before.before.before.before.before.before.before.before.before.before.before.before.before.before.before.before.before.before.before.before.before))
-    (λ c κs. omega (arith, fit c.before.before.before.before.before.before.before.before.before.before.before.before.before.before.before.before.before.before.before.before.before.before))
-    (λ c. search rules)
-    (λ c. search rules)
-    (λ c. omega (arith, fit c.before.before.before.before.before.before.before.before.before.before.before.before.before.before.before.before.before.before.before.before.before.before.before.before.before))
-    put-mark-samples-requires
-    (λ c. search rules)
-    returns)
+    (λ c. omega (arith, within c.requires.2, c.well_formed))
+    (λ c. omega (arith, within c.requires.2))
+    (λ c κs. omega (arith, within c.requires.2))
+    (λ c. search rules) (λ c. search rules)
+    (λ c. omega (arith, within c.requires.2))
+    put-mark-samples-requires (λ c. search rules) returns)

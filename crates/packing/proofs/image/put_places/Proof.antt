@@ -32,7 +32,4 @@ put_places_spec =
     (λ c. omega (arith, within c.requires.2.laid))
     (λ c. omega (arith, within c.requires.2.laid))
     (λ c κs. omega (arith, within c.requires.2.laid))
-    put-places-requires
-    (λ c. search rules)
-    (λ c. search rules)
-    returns)
+    put-places-requires (λ c. search rules) (λ c. search rules) returns)

@@ -47,6 +47,4 @@ put_sample_section_spec =
     let d = x.requires.2.laid in
     omega (arith, (sized d).trits_are, d.proper.length_high, div-le_self x.args.lay.trits x.args.step))
     (λ c κs. omega (arith, c.requires.3.room, within c.requires.2.laid))
-    put-samples-requires
-    (λ c. search rules)
-    returns)
+    put-samples-requires (λ c. search rules) returns)

@@ -35,9 +35,5 @@ returns c =
 
 pub put_samples_spec : {M : Type 1} → statement M
 put_samples_spec =
-    tie.close (tie.spec (λ c κs. search rules)
-    put-sample-section-requires
-    put-sample-section-requires-2
-    put-sample-section-requires-3
-    (λ c. search rules)
+    tie.close (tie.spec (λ c κs. search rules) put-sample-section-requires put-sample-section-requires-2 put-sample-section-requires-3 (λ c. search rules)
     returns)

@@ -1,14 +1,10 @@
 -- `image::put_walk` meets its contract: sections 1 and 2, one behind the other. Assumes nothing.
 use native.Mathlib.Omega.{arith}
 use borrow.Author.Rules.{rules}
-use lib.ListN.{length}
 use Rattle.format.specs.Image.{section1, section2}
-use Rattle.packing.proofs.ImageLaws.{Within, sized, offsets, within, laid_walk, roots_from, walk_put}
+use Rattle.packing.proofs.ImageLaws.{sized, offsets, within, laid_walk, roots_from, walk_put}
 use Rattle.packing.proofs.image.put_walk.Statement.{statement}
 use Rattle.packing.proofs.image.put_walk.Tie as tie
-
-fit : (x : tie.Start) → Within x.args.lay (length x.args.image.now)
-fit x = within (laid_walk x.requires)
 
 put-trytes-requires : tie.Need-put_trytes-requires
 put-trytes-requires c κs =
@@ -30,19 +26,17 @@ returns c =
 pub put_walk_spec : {M : Type 1} → statement M
 put_walk_spec =
     tie.close (tie.spec (λ c. (roots_from c.requires).0)
-    (λ c. omega (arith, fit c.before.before.before.before.before))
-    (λ c. omega (arith, fit c.before.before.before.before.before.before))
-    (λ c κs. omega (arith, fit c.before.before.before.before.before.before))
-    (λ c. omega (arith, fit c.before.before.before.before.before.before.before.before.before))
-    (λ c. omega (arith, fit c.before.before.before.before.before.before.before.before.before))
-    (λ c. omega (arith, fit c.before.before.before.before.before.before.before.before.before))
+    (λ c. omega (arith, (within (laid_walk c.requires))))
+    (λ c. omega (arith, (within (laid_walk c.requires))))
+    (λ c κs. omega (arith, (within (laid_walk c.requires))))
+    (λ c. omega (arith, (within (laid_walk c.requires))))
+    (λ c. omega (arith, (within (laid_walk c.requires))))
+    (λ c. omega (arith, (within (laid_walk c.requires))))
     put-trytes-requires
-    (λ c. omega (arith, fit c.before.before.before.before.before.before.before.before.before.before.before.before.before.before))
-    (λ c. omega (arith, fit c.before.before.before.before.before.before.before.before.before.before.before.before.before.before.before))
-    (λ c κs. omega (arith, fit c.before.before.before.before.before.before.before.before.before.before.before.before.before.before.before))
-    (λ c. omega (arith, fit c.before.before.before.before.before.before.before.before.before.before.before.before.before.before.before.before.before.before))
-    (λ c. omega (arith, fit c.before.before.before.before.before.before.before.before.before.before.before.before.before.before.before.before.before.before))
-    (λ c. omega (arith, fit c.before.before.before.before.before.before.before.before.before.before.before.before.before.before.before.before.before.before))
-    put-shadows-requires
-    (λ c. search rules)
-    returns)
+    (λ c. omega (arith, (within (laid_walk c.requires))))
+    (λ c. omega (arith, (within (laid_walk c.requires))))
+    (λ c κs. omega (arith, (within (laid_walk c.requires))))
+    (λ c. omega (arith, (within (laid_walk c.requires))))
+    (λ c. omega (arith, (within (laid_walk c.requires))))
+    (λ c. omega (arith, (within (laid_walk c.requires))))
+    put-shadows-requires (λ c. search rules) returns)

@@ -25,7 +25,7 @@ returns-2 c = outcome_7 (measured c.before.before) _ _ _ (inr c.if-order-n.true)
 
 pack-nodes-requires : tie.Need-pack_nodes-requires
 pack-nodes-requires c κs =
-    record { measured = measured c.before.before.before.before.before; order_room = c.if-order-n.false; work_room = c.if-work-n.false }
+    record { measured = (scanned (sym (ap sizes c.in-Sound.is) ∙ c.scan.ensures)); order_room = c.if-order-n.false; work_room = c.if-work-n.false }
 
 returns-3 : tie.Need-returns-in-Fault
 returns-3 c = pack_faulty _ _ _ _ _ (refused _ _ (sym (ap sizes c.in-Fault.is) ∙ c.scan.ensures))
@@ -35,15 +35,5 @@ returns-4 c = c.pack_nodes.ensures
 
 pub pack_spec : {M : Type 1} → statement M
 pack_spec =
-    tie.close (tie.spec (λ c κs. search rules)
-    (λ c. search rules)
-    (λ c. search rules)
-    mul-if1
-    returns
-    returns-2
-    pack-nodes-requires
-    returns-3
-    (λ c. search rules)
-    (λ c. search rules)
-    (λ c. search rules)
-    returns-4)
+    tie.close (tie.spec (λ c κs. search rules) (λ c. search rules) (λ c. search rules) mul-if1 returns returns-2 pack-nodes-requires returns-3
+    (λ c. search rules) (λ c. search rules) (λ c. search rules) returns-4)

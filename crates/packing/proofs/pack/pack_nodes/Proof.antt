@@ -20,13 +20,5 @@ returns-2 c =
 
 pub pack_nodes_spec : {M : Type 1} → statement M
 pack_nodes_spec =
-    tie.close (tie.spec (λ c κs. search rules)
-    (λ c κs. search rules)
-    (λ c. search rules)
-    returns
-    put-all-requires
-    (λ c κs. search rules)
-    (λ c. search rules)
-    (λ c. search rules)
-    (λ c. search rules)
-    returns-2)
+    tie.close (tie.spec (λ c κs. search rules) (λ c κs. search rules) (λ c. search rules) returns put-all-requires (λ c κs. search rules)
+    (λ c. search rules) (λ c. search rules) (λ c. search rules) returns-2)

@@ -34,29 +34,17 @@ add-size-2 c = omega (arith, size_small c.requires (laid c))
 
 put-image-requires : tie.Need-put_image-requires
 put-image-requires c κs =
-    planned c.requires (laid c.before.before.before.before.before.before.before) (omega arith)
+    let o = c.requires in
+    planned o (laid_out o c.lay_out-lay.ensures (c.count_marked-marked.ensures _ o.walked.held)) (omega arith)
 
 returns-2 : tie.Need-returns
 returns-2 c =
     let o = c.requires in
-    uncleared_done o (laid c.before.before.before.before.before.before.before.before.before.before.before.before) (omega arith) (c.put_order.ensures _ o.walked.held) c.put_image.auto.work c.put_image.ensures.1 c.put_image.ensures.0
+    uncleared_done o (laid_out o c.lay_out-lay.ensures (c.count_marked-marked.ensures _ o.walked.held)) (omega arith) (c.put_order.ensures _ o.walked.held) c.put_image.auto.work c.put_image.ensures.1 c.put_image.ensures.0
 
 pub put_all_spec : {M : Type 1} → statement M
 put_all_spec =
-    tie.close (tie.spec add-uses
-    (λ c κs. search rules)
-    add_total
-    add-total-2
-    sub-shadows
-    lay-out-requires
-    (λ c. search rules)
-    (λ c. search rules)
-    add-size-2
-    (λ c. search rules)
+    tie.close (tie.spec add-uses (λ c κs. search rules) add_total add-total-2 sub-shadows lay-out-requires (λ c. search rules) (λ c. search rules)
+    add-size-2 (λ c. search rules)
     (λ c. uncleared_9 c.requires (laid c.before) (omega arith))
-    (λ c κs. search rules)
-    put-image-requires
-    (λ c. search rules)
-    (λ c. search rules)
-    (λ c. search rules)
-    returns-2)
+    (λ c κs. search rules) put-image-requires (λ c. search rules) (λ c. search rules) (λ c. search rules) returns-2)

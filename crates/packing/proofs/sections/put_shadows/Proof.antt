@@ -46,7 +46,7 @@ add-p c =
 loop-again : tie.Need-loop-i-preserved-in-Shadow invariant-loop decreases-loop
 loop-again c =
     let l = c.loop-i in
-    one_shadow l.invariant (subst (Stepped _ _ l.invariant.next) c.in-Shadow.is (told c.before.before.before.before.before)) _ c.put2.auto.s c.put2.ensures
+    one_shadow l.invariant (subst (Stepped _ _ l.invariant.next) c.in-Shadow.is (let i = c.loop-i.invariant in c.step.ensures i.next i.rest)) _ c.put2.auto.s c.put2.ensures
 
 loop-again-2 : tie.Need-loop-i-preserved-in-End invariant-loop decreases-loop
 loop-again-2 c =
@@ -72,26 +72,6 @@ returns c = all_shadows c.loop-i.invariant (omega (arith, length_trits c.require
 
 pub put_shadows_spec : {M : Type 1} → statement M
 put_shadows_spec =
-    tie.close (tie.spec invariant-loop
-    decreases-loop
-    sub-total
-    (λ c κs. search rules)
-    loop-holds
-    (λ c. search rules)
-    step-requires
-    (λ c. search rules)
-    put2-requires
-    add-p
-    (λ c. search rules)
-    loop-again
-    (λ c. search rules)
-    (λ c. search rules)
-    loop-again-2
-    (λ c. search rules)
-    (λ c. search rules)
-    loop-again-3
-    (λ c. search rules)
-    (λ c. search rules)
-    loop-again-4
-    same_length
-    returns)
+    tie.close (tie.spec invariant-loop decreases-loop sub-total (λ c κs. search rules) loop-holds (λ c. search rules) step-requires (λ c. search rules)
+    put2-requires add-p (λ c. search rules) loop-again (λ c. search rules) (λ c. search rules) loop-again-2 (λ c. search rules) (λ c. search rules)
+    loop-again-3 (λ c. search rules) (λ c. search rules) loop-again-4 same_length returns)

@@ -45,15 +45,5 @@ returns c = let w = c.loop-i.invariant.written in over_whole w (omega (arith, ov
 
 pub put_trytes_spec : {M : Type 1} → statement M
 put_trytes_spec =
-    tie.close (tie.spec invariant-loop
-    decreases-loop
-    (λ c κs. search rules)
-    loop-holds
-    next-tryte-requires
-    (λ c. search rules)
-    (λ c. search rules)
-    (λ c. search rules)
-    loop-less
-    loop-again
-    same_length
-    returns)
+    tie.close (tie.spec invariant-loop decreases-loop (λ c κs. search rules) loop-holds next-tryte-requires (λ c. search rules) (λ c. search rules)
+    (λ c. search rules) loop-less loop-again same_length returns)

@@ -20,6 +20,4 @@ returns : tie.Need-returns
 returns c = let p = c.requires in begin p.0 _ p.1 _ c.word-k.ensures.0
 
 pub first_spec : {M : Type 1} → statement M
-first_spec = tie.close (tie.spec word-requires
-    add-t6
-    returns)
+first_spec = tie.close (tie.spec word-requires add-t6 returns)

@@ -29,12 +29,5 @@ returns-4 c =
 
 pub next_trit_spec : {M : Type 1} → statement M
 next_trit_spec =
-    tie.close (tie.spec (λ c κs. search rules)
-    (λ c. search rules)
-    (λ c. search rules)
-    (λ c. search rules)
-    (λ c. search rules)
-    returns
-    returns-2
-    returns-3
+    tie.close (tie.spec (λ c κs. search rules) (λ c. search rules) (λ c. search rules) (λ c. search rules) (λ c. search rules) returns returns-2 returns-3
     returns-4)

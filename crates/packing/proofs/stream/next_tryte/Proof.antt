@@ -35,17 +35,5 @@ returns c = (
 
 pub next_tryte_spec : {M : Type 1} → statement M
 next_tryte_spec =
-    tie.close (tie.spec (λ c κs. search rules)
-    (λ c κs. search rules)
-    (λ c κs. search rules)
-    (λ c κs. search rules)
-    (λ c κs. search rules)
-    (λ c. search rules)
-    (λ c. search rules)
-    (λ c. search rules)
-    (λ c. search rules)
-    (λ c. search rules)
-    add-t20
-    mul-t21
-    add-t22
-    returns)
+    tie.close (tie.spec (λ c κs. search rules) (λ c κs. search rules) (λ c κs. search rules) (λ c κs. search rules) (λ c κs. search rules)
+    (λ c. search rules) (λ c. search rules) (λ c. search rules) (λ c. search rules) (λ c. search rules) add-t20 mul-t21 add-t22 returns)

@@ -14,10 +14,4 @@ returns-4 c = λ left r. none_left r (omega (arith, c.if-c-n.false, c.if-c-n-2.f
 
 pub step_spec : {M : Type 1} → statement M
 step_spec =
-    tie.close (tie.spec (λ c κs. search rules)
-    (λ c. search rules)
-    (λ c κs. search rules)
-    (λ c. search rules)
-    (λ c. search rules)
-    returns-3
-    returns-4)
+    tie.close (tie.spec (λ c κs. search rules) (λ c. search rules) (λ c κs. search rules) (λ c. search rules) (λ c. search rules) returns-3 returns-4)

@@ -34,14 +34,5 @@ returns-2 c =
 
 pub step_operand_spec : {M : Type 1} → statement M
 step_operand_spec =
-    tie.close (tie.spec (λ c κs. search rules)
-    (λ c. search rules)
-    sub-entry
-    entry-requires
-    add-if1
-    (λ c. search rules)
-    (λ c. search rules)
-    returns
-    (λ c. search rules)
-    (λ c. search rules)
-    returns-2)
+    tie.close (tie.spec (λ c κs. search rules) (λ c. search rules) sub-entry entry-requires add-if1 (λ c. search rules) (λ c. search rules) returns
+    (λ c. search rules) (λ c. search rules) returns-2)

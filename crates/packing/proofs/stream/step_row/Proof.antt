@@ -27,12 +27,5 @@ returns c =
 
 pub step_row_spec : {M : Type 1} → statement M
 step_row_spec =
-    tie.close (tie.spec (λ c. search rules)
-    (λ c. search rules)
-    (λ c κs. search rules)
-    sub-entry
-    entry-requires-2
-    word-requires
-    (λ c. search rules)
-    (λ c. search rules)
-    returns)
+    tie.close (tie.spec (λ c. search rules) (λ c. search rules) (λ c κs. search rules) sub-entry entry-requires-2 word-requires (λ c. search rules)
+    (λ c. search rules) returns)

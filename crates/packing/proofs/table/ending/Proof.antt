@@ -23,16 +23,5 @@ returns-4 c =
 
 pub ending_spec : {M : Type 1} → statement M
 ending_spec =
-    tie.close (tie.spec returns
-    (λ c κs. search rules)
-    (λ c. search rules)
-    (λ c κs. search rules)
-    (λ c. search rules)
-    (λ c. search rules)
-    returns-2
-    (λ c. search rules)
-    (λ c. search rules)
-    (λ c. search rules)
-    (λ c. search rules)
-    returns-3
-    returns-4)
+    tie.close (tie.spec returns (λ c κs. search rules) (λ c. search rules) (λ c κs. search rules) (λ c. search rules) (λ c. search rules) returns-2
+    (λ c. search rules) (λ c. search rules) (λ c. search rules) (λ c. search rules) returns-3 returns-4)

@@ -43,21 +43,9 @@ returns-4 c =
 
 pub lists_spec : {M : Type 1} → statement M
 lists_spec =
-    tie.close (tie.spec invariant-loop
-    decreases-loop
-    (λ c. search rules)
-    returns
-    (λ c κs. search rules)
-    (λ c. search rules)
+    tie.close (tie.spec invariant-loop decreases-loop (λ c. search rules) returns (λ c κs. search rules) (λ c. search rules)
     (λ c.
     let l = c.loop-left in
     count_above _ _ l.at l.m l.left (l.left - 1) (omega arith) (omega arith) _ c.word-k.ensures.0 (omega arith) ∙ l.invariant.2)
-    (λ c. search rules)
-    (λ c κs. search rules)
-    (λ c. search rules)
-    returns-3
-    (λ c. search rules)
-    (λ c. search rules)
-    (λ c. search rules)
-    loop-again
+    (λ c. search rules) (λ c κs. search rules) (λ c. search rules) returns-3 (λ c. search rules) (λ c. search rules) (λ c. search rules) loop-again
     returns-4)

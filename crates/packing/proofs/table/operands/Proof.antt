@@ -40,15 +40,5 @@ returns-3 c =
 
 pub operands_spec : {M : Type 1} → statement M
 operands_spec =
-    tie.close (tie.spec invariant-loop
-    decreases-loop
-    (λ c. search rules)
-    returns
-    (λ c κs. search rules)
-    (λ c κs. search rules)
-    returns-2
-    (λ c. search rules)
-    (λ c. search rules)
-    (λ c. search rules)
-    loop-again
-    returns-3)
+    tie.close (tie.spec invariant-loop decreases-loop (λ c. search rules) returns (λ c κs. search rules) (λ c κs. search rules) returns-2
+    (λ c. search rules) (λ c. search rules) (λ c. search rules) loop-again returns-3)

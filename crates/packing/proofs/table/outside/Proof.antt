@@ -18,6 +18,4 @@ returns-3 c =
     rw (le-leb 1 x.v (omega arith), le-leb x.v x.n (omega arith))
 
 pub outside_spec : {M : Type 1} → statement M
-outside_spec = tie.close (tie.spec returns
-    returns-2
-    returns-3)
+outside_spec = tie.close (tie.spec returns returns-2 returns-3)

@@ -75,22 +75,8 @@ returns-4 c =
 
 pub roots_spec : {M : Type 1} → statement M
 roots_spec =
-    tie.close (tie.spec invariant-loop
-    decreases-loop
-    loop-holds
-    returns
-    (λ c κs. search rules)
-    (λ c κs. search rules)
-    returns-2
-    (λ c. search rules)
+    tie.close (tie.spec invariant-loop decreases-loop loop-holds returns (λ c κs. search rules) (λ c κs. search rules) returns-2 (λ c. search rules)
     (λ c. omega (arith, small c.before c.if-outside.false))
-    (λ c κs. search rules)
-    returns-3
-    (λ c κs. search rules)
-    (λ c. search rules)
+    (λ c κs. search rules) returns-3 (λ c κs. search rules) (λ c. search rules)
     (λ c. omega (arith, small c.before.before.before.before c.if-outside.false))
-    (λ c. search rules)
-    (λ c. search rules)
-    (λ c. search rules)
-    loop-again
-    returns-4)
+    (λ c. search rules) (λ c. search rules) (λ c. search rules) loop-again returns-4)

@@ -31,12 +31,5 @@ returns-4 c =
 
 pub scan_spec : {M : Type 1} → statement M
 scan_spec =
-    tie.close (tie.spec returns
-    (λ c κs. search rules)
-    returns-2
-    (λ c κs. search rules)
-    (λ c. search rules)
-    (λ c. search rules)
-    ending-requires
-    returns-3
+    tie.close (tie.spec returns (λ c κs. search rules) returns-2 (λ c κs. search rules) (λ c. search rules) (λ c. search rules) ending-requires returns-3
     returns-4)

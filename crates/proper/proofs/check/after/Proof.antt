@@ -15,8 +15,4 @@ returns c =
     take_all (length b - end) (drop end b) (omega (arith, length-drop end b)) ∙ sym (drop-drop c.args.size 4 b)
 
 pub after_spec : {M : Type 1} → statement M
-after_spec = tie.close (tie.spec (λ c. search rules)
-    (λ c. search rules)
-    (λ c. search rules)
-    (λ c. search rules)
-    returns)
+after_spec = tie.close (tie.spec (λ c. search rules) (λ c. search rules) (λ c. search rules) (λ c. search rules) returns)

@@ -7,8 +7,6 @@ use Rattle.proper.proofs.check.check.Tie as tie
 
 pub check_spec : {M : Type 1} → statement M
 check_spec =
-    tie.close (tie.spec (λ c κs. search rules)
-    (λ c. search rules)
-    (λ c. search rules)
+    tie.close (tie.spec (λ c κs. search rules) (λ c. search rules) (λ c. search rules)
     (λ c. sym (subst (Examines _ _) c.in-Refused.is c.examine.ensures))
     (λ c. sym (subst (Examines _ _) c.in-Proper.is c.examine.ensures).0))

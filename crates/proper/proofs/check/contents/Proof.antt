@@ -16,8 +16,4 @@ returns c =
     (r, ap length r ∙ length-take-le c.args.size (drop 4 b) (omega (arith, length-drop 4 b)))
 
 pub contents_spec : {M : Type 1} → statement M
-contents_spec = tie.close (tie.spec (λ c. search rules)
-    (λ c. search rules)
-    (λ c. search rules)
-    (λ c. search rules)
-    returns)
+contents_spec = tie.close (tie.spec (λ c. search rules) (λ c. search rules) (λ c. search rules) (λ c. search rules) returns)

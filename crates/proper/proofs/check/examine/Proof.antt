@@ -43,7 +43,8 @@ right : (c : tie.After-get4-l) → 1 ≤ c.get4-l.result → 1 ≤ count_of (ima
 right c h = omega (arith, count c, h)
 
 returns-4 : tie.Need-returns-then-image-size
-returns-4 c = let g = c.before.before.before in
+returns-4 c =
+    let g = c.before.before.before in
     let b = image g in
     refused_1 b ImageEnds ((first g (omega (arith, c.if-l-gt-MAX_TRITS.false))).contents_missing (omega (arith, c.if-image-lt4.false)) (right g (omega arith)) (omega (arith, length-drop 4 b, count g, c.if-image-size.true)))
 
@@ -52,7 +53,8 @@ bytes_are : (c : tie.After-contents-bs) → let b = image c.before.before.before
 bytes_are c = let g = c.before.before.before.before in c.contents-bs.ensures.0 ∙ ap (λ (x : ℕ). contents_of (up x 5) (image g)) (count g)
 
 there : (c : tie.After-contents-bs) → fault1 (image c.before.before.before.before) ≡ contents_fault1 c.get4-l.result c.contents-bs.result.now
-there c = let g = c.before.before.before.before in
+there c =
+    let g = c.before.before.before.before in
     let b = image g in
     (first g (omega (arith, c.if-l-gt-MAX_TRITS.false))).contents_there (omega (arith, c.if-image-lt4.false)) (right g (omega arith))
     (omega (arith, length-drop 4 b, count g, c.if-image-size.false))
@@ -73,29 +75,22 @@ returns-5 c =
 
 returns-6 : tie.Need-returns-in-Sizes
 unfolding trits_of
-returns-6 c = let g = c.before.before.before.before.before.before.before.before in let cut = c.before.before.before.before in
-    let b = image g in
-    let rest = c.after.ensures ∙ ap (λ (x : ℕ). rest_of (up x 5) b) (count g) in
+returns-6 c =
+    let cut = c.before.before.before.before in
+    let b = c.args.image.now in
+    let is = c.get4-l.ensures.0 in
+    let rest = c.after.ensures ∙ ap (λ (x : ℕ). rest_of (up x 5) b) is in
     examines_as c.from2.result
-    ((λ i. check2 (untrytes (count g i) (bytes_are cut i)) (rest i)) ∙ sym (passed_1 b (there cut ∙ (passed c.before.before).passed)))
-    ((λ i. laying (untrytes (count g i) (bytes_are cut i)) (shadows2 (untrytes (count g i) (bytes_are cut i)) (rest i))) ∙ sym (laid_out b))
+    ((λ i. check2 (untrytes (is i) (bytes_are cut i)) (rest i)) ∙ sym (passed_1 b (there cut ∙ (passed c.before.before).passed)))
+    ((λ i. laying (untrytes (is i) (bytes_are cut i)) (shadows2 (untrytes (is i) (bytes_are cut i)) (rest i))) ∙ sym (laid_out b))
     c.from2.ensures
 
 pub examine_spec : {M : Type 1} → statement M
 examine_spec =
-    tie.close (tie.spec returns
-    (λ c κs. search rules)
-    returns-2
+    tie.close (tie.spec returns (λ c κs. search rules) returns-2
     (λ c. let g = c.before.before in
     refused_1 _ TritsWrong ((first g (omega (arith, c.if-l-gt-MAX_TRITS.false))).count_wrong (omega (arith, c.if-image-lt4.false)) (λ h. omega (arith, count g))))
-    (λ c. search rules)
-    (λ c. search rules)
-    returns-4
-    (λ c κs. search rules)
-    section1-requires
-    (λ c. search rules)
-    (λ c. search rules)
+    (λ c. search rules) (λ c. search rules) returns-4 (λ c κs. search rules) section1-requires (λ c. search rules) (λ c. search rules)
     (λ c κs. search rules)
     (λ c κs. passed c.before)
-    returns-5
-    returns-6)
+    returns-5 returns-6)

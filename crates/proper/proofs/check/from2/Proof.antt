@@ -65,14 +65,15 @@ from3-requires c κs =
     (_, _, known c.before.before c.if-right.true, c.requires.sized)
 
 returns-2 : tie.Need-returns-then-right
-returns-2 c = let test = c.before.before.before in
+returns-2 c =
+    let test = c.before.before.before in
     let taken = c.if-right.true in
     let twos = c.requires.sized.twos_are in
     let trits = untrytes c.args.l c.args.bs.now in
     let b = c.args.rest.now in
     let hs = c.contents-hs.ensures.0 in
     examines_as c.from3.result
-    ((λ i. check_given (given trits (from_bytes 2 (hs i))) (c.after.ensures i)) ∙ sym (second_passed trits b twos (front c.before.before.before.before.before) (sym (tested test) ∙ taken)))
+    ((λ i. check_given (given trits (from_bytes 2 (hs i))) (c.after.ensures i)) ∙ sym (second_passed trits b twos (sym (ap checked_number c.in_default.is) ∙ c.opened.ensures) (sym (tested test) ∙ taken)))
     (ap (λ (l : List ℕ). laying trits (from_bytes 2 l)) hs ∙ ap (laying trits) (sym (shadows_2 trits b twos)))
     (c.from3.ensures trits _ (known test taken) c.requires.sized)
 
@@ -83,13 +84,8 @@ returns-3 c =
 pub from2_spec : {M : Type 1} → statement M
 from2_spec =
     tie.close (tie.spec (λ c. omega (arith, few c.before.before))
-    (λ c κs. search rules)
-    (λ c. search rules)
-    returns
-    (λ c. search rules)
+    (λ c κs. search rules) (λ c. search rules) returns (λ c. search rules)
     (λ c κs. room c)
     shadows-right-requires
     (λ c κs. room c.before.before.before)
-    from3-requires
-    returns-2
-    returns-3)
+    from3-requires returns-2 returns-3)

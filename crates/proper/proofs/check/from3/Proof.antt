@@ -62,14 +62,15 @@ count-marks-requires c κs =
     (p.0, p.1, marked c.before c.if-right.true p.0 p.1 p.2 p.3)
 
 lay-out-requires : tie.Need-lay_out-lay-requires
-lay-out-requires c κs = let s = c.before.before.before.before.before.before.before.before.before in
+lay-out-requires c κs =
     let p = c.requires in
     let h = c.count_marks-h.ensures p.0 p.1 (marked c.before.before c.if-right.true p.0 p.1 p.2 p.3) in
-    let P = p.2.shadowed.proper in (
+    let P = p.2.shadowed.proper in
+    let n : c.args.n ≤ 30000 = omega (arith, p.3.nodes_are, limits_nodes p.0 P.in_limits) in (
       omega (arith, p.3.trits_are, P.length_high),
-      few s,
+      n,
       omega (arith, p.3.twos_are, P.paired, shadows_few P),
-      omega (arith, h, marked_few p.0 p.1, few s, p.3.nodes_are),
+      omega (arith, h, marked_few p.0 p.1, n, p.3.nodes_are),
     )
 
 -- sections 1, 2 and 3 have passed
@@ -89,7 +90,8 @@ returns-2 c =
 
 returns-3 : tie.Need-returns-in-Proper
 unfolding given
-returns-3 c = let laid = c.before.before.before in
+returns-3 c =
+    let laid = c.before.before.before in
     λ trits H K S. (
       sym (first_passed (section3 trits H) (given_from 1 trits H) _ (front3 trits H S.nodes_are).fills
           (sym (ap (fault 25) c.if-right.true) ∙ gives c.before.before.before.before.before.before trits H K S) _
@@ -105,18 +107,9 @@ pub from3_spec : {M : Type 1} → statement M
 from3_spec =
     tie.close (tie.spec (λ c. omega (arith, few c.before.before.before))
     (λ c. omega (arith, few c.before.before.before))
-    (λ c κs. search rules)
-    (λ c. search rules)
-    returns
-    (λ c. search rules)
+    (λ c κs. search rules) (λ c. search rules) returns (λ c. search rules)
     (λ c κs. room c)
-    marks-right-requires
-    count-marks-requires
-    lay-out-requires
+    marks-right-requires count-marks-requires lay-out-requires
     (λ c κs. room c.before.before.before.before.before)
     (λ c κs. let p = c.requires in (p.0, p.1, through c.before p.0 p.1 p.2 p.3))
-    (λ c. search rules)
-    (λ c. search rules)
-    returns-2
-    returns-3
-    returns-4)
+    (λ c. search rules) (λ c. search rules) returns-2 returns-3 returns-4)

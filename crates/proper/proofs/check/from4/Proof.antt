@@ -39,10 +39,7 @@ pub from4_spec : {M : Type 1} → statement M
 from4_spec =
     tie.close (tie.spec (λ c. omega (arith, few c.before.before.before.before.before))
     (λ c. omega (arith, few c.before.before.before.before.before))
-    (λ c κs. search rules)
-    (λ c. search rules)
-    returns
-    (λ c. search rules)
+    (λ c κs. search rules) (λ c. search rules) returns (λ c. search rules)
     (λ c κs. room c)
     (λ c κs. room c.before)
     (λ c κs. (c.contents-firsts.ensures.1, c.requires))

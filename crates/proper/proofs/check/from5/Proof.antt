@@ -60,7 +60,7 @@ gives : (c : tie.After-both_right-right) → let x = c.args in (trits H : List �
 unfolding given section5
 gives c trits H T =
     let C = counted T in
-    both_open (section5 trits H) (given_from 3 trits H) c.args.rest.now (front5 trits H T.marked.proper (counted_shadows C)) (front c.before.before.before.before)
+    both_open (section5 trits H) (given_from 3 trits H) c.args.rest.now (front5 trits H T.marked.proper (counted_shadows C)) (sym (ap checked_number c.in_default.is) ∙ c.opened.ensures)
     c.contents.ensures.0 (same c.args.firsts.now (bytes 4 (starts trits H))) c.both_right-right.result
     (c.both_right-right.ensures trits H T.known (counted_trits C) (sym (counted_nodes C)))
 
@@ -80,15 +80,8 @@ returns-3 c = λ trits H T. rw c.if-right.false at (gives c.before trits H T)
 pub from5_spec : {M : Type 1} → statement M
 from5_spec =
     tie.close (tie.spec (λ c. omega (arith, few c.before.before.before.before.before))
-    (λ c κs. search rules)
-    (λ c. search rules)
-    before5-requires
-    returns
-    (λ c. search rules)
-    (λ c κs. search rules)
+    (λ c κs. search rules) (λ c. search rules) before5-requires returns (λ c. search rules) (λ c κs. search rules)
     (λ c κs. room c.before)
     both-right-requires
     (λ c κs. room c.before.before.before.before.before.before)
-    from6-requires
-    returns-2
-    returns-3)
+    from6-requires returns-2 returns-3)

@@ -64,21 +64,13 @@ returns-2 c =
 
 pub from6_spec : {M : Type 1} → statement M
 from6_spec =
-    tie.close (tie.spec invariant-loop
-    decreases-loop
+    tie.close (tie.spec invariant-loop decreases-loop
     (λ c. (omega arith, λ trits H C. refl))
-    (λ c κs. search rules)
-    sample-section-requires
-    (λ c. search rules)
-    returns
-    (λ c. search rules)
+    (λ c κs. search rules) sample-section-requires (λ c. search rules) returns (λ c. search rules)
     (λ c. (small c.before.before).0)
     (λ c. omega (arith, (small c.before.before).1))
     (λ c. omega (arith, (small c.before.before).1))
     (λ c. omega (arith, (small c.before.before).2))
-    after-requires
-    (λ c. search rules)
-    (λ c. search rules)
-    loop-again
+    after-requires (λ c. search rules) (λ c. search rules) loop-again
     (λ c κs. let t = c.requires.1 in (t.0, t.1, t.2.marked, counted_nodes t.2))
     returns-2)

@@ -65,15 +65,8 @@ returns-3 c = λ trits H M e. first_refused (section9 trits H) [] _ IndexWrong (
 
 pub from9_spec : {M : Type 1} → statement M
 from9_spec =
-    tie.close (tie.spec add_words
-    (λ c. search rules)
-    (λ c κs. search rules)
-    (λ c. search rules)
-    returns
-    (λ c. search rules)
+    tie.close (tie.spec add_words (λ c. search rules) (λ c κs. search rules) (λ c. search rules) returns (λ c. search rules)
     (λ c κs. room c)
     mark-samples-right-requires
     (λ c κs. room c.before.before.before)
-    (λ c κs. search rules)
-    returns-2
-    returns-3)
+    (λ c κs. search rules) returns-2 returns-3)

@@ -30,9 +30,4 @@ returns-4 c =
     sym ((gives c.before.before.before.before.before).contents_there (omega arith) (sym c.get4-found.ensures.0 ∙ c.if-found-entries.false) (omega (arith, length-drop 4 c.args.rest.now)))
 
 pub opened_spec : {M : Type 1} → statement M
-opened_spec = tie.close (tie.spec returns
-    (λ c κs. search rules)
-    returns-2
-    (λ c. search rules)
-    returns-3
-    returns-4)
+opened_spec = tie.close (tie.spec returns (λ c κs. search rules) returns-2 (λ c. search rules) returns-3 returns-4)

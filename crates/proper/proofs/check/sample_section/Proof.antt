@@ -56,10 +56,7 @@ sample_section_spec =
     (λ c. omega (arith, (small c.before.before).1))
     (λ c. omega (arith, (small c.before.before).1))
     (λ c. omega (arith, (small c.before.before).2))
-    (λ c κs. search rules)
-    (λ c. search rules)
-    returns
-    (λ c. search rules)
+    (λ c κs. search rules) (λ c. search rules) returns (λ c. search rules)
     (λ c κs. opens_room _ _ _ _ (sym (front c)))
     samples-right-requires
     (λ c. λ trits T e. sym (ap (fault 25) c.if-right.true) ∙ gives c.before trits T e)

@@ -37,12 +37,4 @@ returns-2 c = sym (c.loop-i.invariant.1 ∙ every_end _ c.args.bs.now c.loop-i.i
 
 pub bytes_low_spec : {M : Type 1} → statement M
 bytes_low_spec =
-    tie.close (tie.spec invariant-loop
-    decreases-loop
-    loop-holds
-    (λ c. search rules)
-    returns
-    (λ c. search rules)
-    (λ c. search rules)
-    loop-again
-    returns-2)
+    tie.close (tie.spec invariant-loop decreases-loop loop-holds (λ c. search rules) returns (λ c. search rules) (λ c. search rules) loop-again returns-2)

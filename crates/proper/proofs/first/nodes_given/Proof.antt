@@ -42,13 +42,4 @@ returns-3 c = λ eb eg. ballot_other c.loop-c.invariant.1 (omega arith) c.if-one
 
 pub nodes_given_spec : {M : Type 1} → statement M
 nodes_given_spec =
-    tie.close (tie.spec invariant-loop
-    decreases-loop
-    loop-holds
-    returns
-    onward-requires
-    (λ c. search rules)
-    loop-again
-    add-if3
-    returns-2
-    returns-3)
+    tie.close (tie.spec invariant-loop decreases-loop loop-holds returns onward-requires (λ c. search rules) loop-again add-if3 returns-2 returns-3)

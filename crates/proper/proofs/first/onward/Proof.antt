@@ -31,19 +31,14 @@ returns-4 c =
 
 pub onward_spec : {M : Type 1} → statement M
 onward_spec =
-    tie.close (tie.spec (λ c. search rules)
-    (λ c κs. search rules)
+    tie.close (tie.spec (λ c. search rules) (λ c κs. search rules)
     (λ c. (omega arith, c.trit_on.ensures.1))
-    (λ c. search rules)
-    (λ c κs. search rules)
+    (λ c. search rules) (λ c κs. search rules)
     (λ c. (omega arith, c.trit_on-then-p-q.ensures.1))
     (λ c. tryte_inside c.requires.1 (c.args.c.p / 5) (omega (arith, c.requires.2)))
     (λ c κs. search rules)
     (λ c κs. (c.requires.0, (here c).low, omega arith))
-    add-zeros
-    (λ c κs. search rules)
+    add-zeros (λ c κs. search rules)
     (λ c. (omega arith, c.trit_on-then-c-zeros.ensures.1))
     (λ c κs. (c.requires.0, (here c.before.before.before.before).low, omega arith))
-    add-ones
-    (λ c. search rules)
-    returns-4)
+    add-ones (λ c. search rules) returns-4)

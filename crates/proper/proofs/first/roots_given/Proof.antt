@@ -41,13 +41,6 @@ loop-again c =
 
 pub roots_given_spec : {M : Type 1} → statement M
 roots_given_spec =
-    tie.close (tie.spec invariant-loop
-    decreases-loop
-    loop-holds
-    (λ c κs. search rules)
-    returns
-    returns-2
-    (λ c. search rules)
-    (λ c. search rules)
+    tie.close (tie.spec invariant-loop decreases-loop loop-holds (λ c κs. search rules) returns returns-2 (λ c. search rules) (λ c. search rules)
     loop-again
     (λ c r e. roots_end c.loop-p.invariant.1 (omega arith) e))

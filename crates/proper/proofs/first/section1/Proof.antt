@@ -46,19 +46,8 @@ ruled c =
 
 pub section1_spec : {M : Type 1} → statement M
 section1_spec =
-    tie.close (tie.spec (λ c κs. search rules)
-    returns
-    (λ c κs. search rules)
-    returns-2
-    (λ c κs. search rules)
-    (λ c. search rules)
-    (λ c. search rules)
-    returns-3
-    (λ c κs. search rules)
-    nodes-given-requires
-    (λ c. search rules)
-    (λ c. search rules)
-    returns-4
+    tie.close (tie.spec (λ c κs. search rules) returns (λ c κs. search rules) returns-2 (λ c κs. search rules) (λ c. search rules) (λ c. search rules)
+    returns-3 (λ c κs. search rules) nodes-given-requires (λ c. search rules) (λ c. search rules) returns-4
     (λ c. ruled_nodes (ruled c.before) (omega arith))
     (λ c. omega (arith, ruled_room (ruled c.before)))
     (λ c. omega (arith, ruled_room (ruled c.before)))

@@ -18,10 +18,8 @@ returns c =
 
 pub trit_on_spec : {M : Type 1} → statement M
 trit_on_spec =
-    tie.close (tie.spec trit-requires
-    (λ c κs. search rules)
+    tie.close (tie.spec trit-requires (λ c κs. search rules)
     (λ c. omega (arith, ballot_few c.requires.1.1))
     (λ c κs. search rules)
     (λ c. omega (arith, ballot_few c.requires.1.1))
-    (λ c. search rules)
-    returns)
+    (λ c. search rules) returns)

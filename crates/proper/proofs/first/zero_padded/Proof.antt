@@ -35,15 +35,8 @@ returns-2 c =
 
 pub zero_padded_spec : {M : Type 1} → statement M
 zero_padded_spec =
-    tie.close (tie.spec invariant-loop
-    decreases-loop
-    (λ c. search rules)
-    loop-holds
-    (λ c κs. search rules)
+    tie.close (tie.spec invariant-loop decreases-loop (λ c. search rules) loop-holds (λ c κs. search rules)
     (λ c.
     let ts = spread 3 5 c.args.bs.now in
     sym (c.loop-p.invariant.2 ∙ every_stop (eqb 0) ts c.loop-p.p (omega arith) (ne_eqb 0 (get_or ts c.loop-p.p 0) (λ e. omega (arith, c.trit-t.ensures.0, e)))))
-    (λ c. search rules)
-    (λ c. search rules)
-    loop-again
-    returns-2)
+    (λ c. search rules) (λ c. search rules) loop-again returns-2)

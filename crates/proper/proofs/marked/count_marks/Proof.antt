@@ -23,12 +23,6 @@ returns c = counted_all c.loop-w.invariant c.loop-w-test.false
 
 pub count_marks_spec : {M : Type 1} → statement M
 count_marks_spec =
-    tie.close (tie.spec invariant-loop
-    decreases-loop
+    tie.close (tie.spec invariant-loop decreases-loop
     (λ c. counted_none _)
-    (λ c κs. search rules)
-    add-count
-    (λ c. search rules)
-    (λ c. search rules)
-    next
-    returns)
+    (λ c κs. search rules) add-count (λ c. search rules) (λ c. search rules) next returns)

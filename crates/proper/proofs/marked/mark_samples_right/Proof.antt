@@ -39,15 +39,5 @@ returns-2 c =
 
 pub mark_samples_right_spec : {M : Type 1} → statement M
 mark_samples_right_spec =
-    tie.close (tie.spec invariant-loop
-    decreases-loop
-    loop-holds
-    (λ c. search rules)
-    get2-requires
-    returns
-    (λ c κs. search rules)
-    add-sum
-    (λ c. search rules)
-    (λ c. search rules)
-    next
-    returns-2)
+    tie.close (tie.spec invariant-loop decreases-loop loop-holds (λ c. search rules) get2-requires returns (λ c κs. search rules) add-sum
+    (λ c. search rules) (λ c. search rules) next returns-2)

@@ -13,7 +13,4 @@ returns : tie.Need-returns
 returns c = ap ones c.get8-word.ensures
 
 pub marks_in_spec : {M : Type 1} → statement M
-marks_in_spec = tie.close (tie.spec (λ c. search rules)
-    (λ c κs. search rules)
-    cast-result
-    returns)
+marks_in_spec = tie.close (tie.spec (λ c. search rules) (λ c κs. search rules) cast-result returns)

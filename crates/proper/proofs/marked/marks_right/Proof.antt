@@ -18,8 +18,4 @@ returns : tie.Need-returns
 returns c = λ trits H s en. c.words_right.ensures trits H s.proper (c.set_marks.ensures trits H s) en
 
 pub marks_right_spec : {M : Type 1} → statement M
-marks_right_spec = tie.close (tie.spec (λ c. search rules)
-    set-marks-requires
-    (λ c. search rules)
-    words-right-requires
-    returns)
+marks_right_spec = tie.close (tie.spec (λ c. search rules) set-marks-requires (λ c. search rules) words-right-requires returns)

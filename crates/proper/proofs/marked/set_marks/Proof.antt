@@ -30,18 +30,5 @@ returns c = filled_all c.loop-i.invariant c.loop-i-test.false
 
 pub set_marks_spec : {M : Type 1} → statement M
 set_marks_spec =
-    tie.close (tie.spec invariant-loop
-    decreases-loop
-    loop-holds
-    shadow-requires
-    (λ c. search rules)
-    (λ c. search rules)
-    (λ c. search rules)
-    (λ c κs. search rules)
-    (λ c. search rules)
-    (λ c. search rules)
-    (λ c. search rules)
-    (λ c. search rules)
-    loop-again
-    (λ c. search rules)
-    returns)
+    tie.close (tie.spec invariant-loop decreases-loop loop-holds shadow-requires (λ c. search rules) (λ c. search rules) (λ c. search rules)
+    (λ c κs. search rules) (λ c. search rules) (λ c. search rules) (λ c. search rules) (λ c. search rules) loop-again (λ c. search rules) returns)

@@ -21,6 +21,4 @@ returns c =
     (omega arith, omega (arith, limits_nodes c.requires.0 s.proper.in_limits), λ trits H t. c.get2.ensures.0 ∙ shadow_at_lem t i (omega (arith, length_shadows s, length_shadows t)))
 
 pub shadow_spec : {M : Type 1} → statement M
-shadow_spec = tie.close (tie.spec mul-get2
-    get2-requires
-    returns)
+shadow_spec = tie.close (tie.spec mul-get2 get2-requires returns)

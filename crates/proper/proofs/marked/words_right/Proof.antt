@@ -41,16 +41,7 @@ returns-2 c =
 
 pub words_right_spec : {M : Type 1} → statement M
 words_right_spec =
-    tie.close (tie.spec invariant-loop
-    decreases-loop
-    add_words
+    tie.close (tie.spec invariant-loop decreases-loop add_words
     (λ c. below_none _)
-    (λ c. search rules)
-    shared-slice-read-word
-    (λ c. search rules)
-    (λ c κs. search rules)
-    returns
-    (λ c. search rules)
-    (λ c. search rules)
-    loop-again
+    (λ c. search rules) shared-slice-read-word (λ c. search rules) (λ c κs. search rules) returns (λ c. search rules) (λ c. search rules) loop-again
     returns-2)

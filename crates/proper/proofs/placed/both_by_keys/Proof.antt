@@ -26,7 +26,8 @@ sample-twos-requires c κs =
 -- the samples
 sampled : (c : tie.After-sample_twos) → let x = c.args in
     (trits : List ℕ) → TritsIn trits x.bs.now → length trits ≡ x.l → TwosAt trits c.step_for-step.result c.sample_twos.new.twos
-sampled c trits T n = let s = c.before.before.before in
+sampled c trits T n =
+    let s = c.before.before.before in
     rw (c.sample_twos.ensures trits T n) (samples_at trits _ _ (rw (n, c.requires.1) (last_low (step s))) (step s).some)
 
 keys-right-requires : tie.Need-keys_right-requires
@@ -42,7 +43,4 @@ returns c trits H K n =
 pub both_by_keys_spec : {M : Type 1} → statement M
 both_by_keys_spec =
     tie.close (tie.spec (λ c κs. c.requires.0)
-    (λ c κs. search rules)
-    sample-twos-requires
-    keys-right-requires
-    returns)
+    (λ c κs. search rules) sample-twos-requires keys-right-requires returns)

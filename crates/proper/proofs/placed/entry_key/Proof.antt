@@ -50,15 +50,11 @@ returns-4 c =
 
 pub entry_key_spec : {M : Type 1} → statement M
 entry_key_spec =
-    tie.close (tie.spec (λ c. search rules)
-    (λ c κs. search rules)
+    tie.close (tie.spec (λ c. search rules) (λ c κs. search rules)
     (λ c trits H K n W R. omega (arith, c.get4-p.ensures.0, R.inside))
     (λ c κs. let t = c.requires.3 in omega (arith, tryte_inside t.2.trits_in (c.get4-p.result / 5) (omega (arith, t.3))))
     (λ c trits H K n W R. omega (arith, trit_is c.before trits K.trits_in, rw (← c.get4-p.ensures.0) at R.two))
     (λ c κs. let p = c.requires in let t = p.3 in (p.0, p.1, (t.0, t.2.trits_in, t.3, t.4, omega arith)))
     (λ c. omega (arith, room c))
     (λ c κs. room c)
-    (λ c. search rules)
-    (λ c. search rules)
-    returns-3
-    returns-4)
+    (λ c. search rules) (λ c. search rules) returns-3 returns-4)

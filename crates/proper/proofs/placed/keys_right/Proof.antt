@@ -9,7 +9,7 @@ use Rattle.format.proofs.Sums.{shadows_few}
 use Rattle.proper.specs.declared.placed.Entry.{Entry}
 use Rattle.proper.specs.declared.placed.Entry.TheVariants.{Key}
 use Rattle.proper.specs.Known.{Known}
-use Rattle.proper.specs.Places.{TwosAt, Answered, Long}
+use Rattle.proper.specs.Places.{TwosAt, Answered}
 use Rattle.proper.proofs.KeyLaws.{entries, key_small}
 use Rattle.proper.proofs.IndexLaws.{same_long, same_nodes, Indexed, indexed_none, indexed_wrong, indexed_same, indexed_differs, indexed_next, indexed_all}
 use Rattle.proper.proofs.placed.keys_right.Statement.{statement}
@@ -31,14 +31,12 @@ Told c r =
 told : (c : tie.After-entry_key invariant-loop decreases-loop) → Told c.before.before c.entry_key.result
 told c = c.entry_key.ensures
 
--- both sections are as long as they have to be
-long : (c : tie.Start invariant-loop decreases-loop) → let x = c.args in (trits H : List ℕ) → Known trits H x.bs.now x.hs.now → length trits ≡ x.l → Long trits H x.firsts.now x.part.now
-long c trits H K n = let p = c.requires.2 in same_long p.2 K (same_nodes p.2.trits_in K.trits_in p.3 n) p.5
-
 -- a turn's entry is one of them
 inside : (c : tie.In-loop-e invariant-loop decreases-loop) → let x = c.args in
     (trits H : List ℕ) → Known trits H x.bs.now x.hs.now → length trits ≡ x.l → c.loop-e.e < length H
-inside c trits H K n = omega (arith, (long c.before.before.before.before.before.before trits H K n).long5)
+inside c trits H K n =
+    let p = c.requires.2 in
+    omega (arith, (same_long p.2 K (same_nodes p.2.trits_in K.trits_in p.3 n) p.5).long5)
 
 few : (c : tie.At-loop-e invariant-loop decreases-loop) → c.loop-e.j ≤ 65535
 few c =
@@ -89,28 +87,20 @@ loop-again-2 c = (
 returns-3 : tie.Need-returns invariant-loop decreases-loop
 returns-3 c =
     λ trits H K n W.
-    let L = long c.before.before.before.before.before.before.before trits H K n in
+    let p = c.requires.2 in
+    let L = same_long p.2 K (same_nodes p.2.trits_in K.trits_in p.3 n) p.5 in
     c.number_is.ensures
     ∙ indexed_all (c.loop-e.invariant.2 trits H K n W) K.shadowed.proper (omega (arith, L.long5)) (λ i l. omega (arith, c.shared_slice_known-4-1.given i))
     (λ i l. omega (arith, c.shared_slice_known-3-1.given i)) L (omega arith)
 
 pub keys_right_spec : {M : Type 1} → statement M
 keys_right_spec =
-    tie.close (tie.spec invariant-loop
-    decreases-loop
+    tie.close (tie.spec invariant-loop decreases-loop
     (λ c. (omega arith, omega arith, λ trits H K n W. indexed_none K.shadowed.proper))
     (λ c κs. let p = c.requires in let t = p.2 in (p.0, p.1, omega arith, (t.0, t.1, t.2, t.3, t.4)))
-    (λ c. search rules)
-    (λ c. search rules)
-    returns
-    add_low
-    (λ c. search rules)
+    (λ c. search rules) (λ c. search rules) returns add_low (λ c. search rules)
     (λ c κs. few c.before.before.before.before)
     (λ c. omega (arith, few c.before.before.before.before.before.before))
-    (λ c. search rules)
-    loop-again
-    returns-2
-    (λ c. search rules)
-    loop-again-2
+    (λ c. search rules) loop-again returns-2 (λ c. search rules) loop-again-2
     (λ c κs. few c.before)
     returns-3)

@@ -71,9 +71,7 @@ returns c trits T n = over_done (filling_put (c.loop-i.invariant.2 trits T n) (r
 
 pub sample_twos_spec : {M : Type 1} → statement M
 sample_twos_spec =
-    tie.close (tie.spec invariant-loop
-    decreases-loop
-    (λ c. search rules)
+    tie.close (tie.spec invariant-loop decreases-loop (λ c. search rules)
     (λ c. search (rules, c.requires.2.some))
     loop-holds
     (λ c. omega (arith, here c.before))
@@ -83,11 +81,9 @@ sample_twos_spec =
     (λ c κs. search rules)
     (λ c. omega (arith, here c.before.before.before))
     (λ c. omega (arith, spots c.before.before))
-    (λ c κs. search rules)
-    twos-to-requires
+    (λ c κs. search rules) twos-to-requires
     (λ c. omega (arith, here c.before.before.before.before.before))
-    (λ c. search rules)
-    loop-again
+    (λ c. search rules) loop-again
     (λ c. omega (arith, here c.before))
     (λ c. omega (arith, here c.before))
     (λ c. omega (arith, here c.before.before))

@@ -29,13 +29,9 @@ loop-again c =
 
 pub two_table_spec : {M : Type 1} → statement M
 two_table_spec =
-    tie.close (tie.spec invariant-loop
-    decreases-loop
+    tie.close (tie.spec invariant-loop decreases-loop
     (λ c. (omega arith, search rules, λ k h. absurd (omega arith)))
     (λ c κs. (c.requires, omega arith, omega arith))
     (λ c. omega (arith, c.tryte_count-twos.ensures.1))
-    (λ c. search rules)
-    (λ c. search rules)
-    (λ c. search rules)
-    loop-again
+    (λ c. search rules) (λ c. search rules) (λ c. search rules) loop-again
     (λ c k h. c.loop-x.invariant.2 k (omega arith)))

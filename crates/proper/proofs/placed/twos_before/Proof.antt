@@ -22,7 +22,8 @@ here c trits T l = tryte_in T (c.args.p / 5) (omega arith) c.wide-x.ensures.0
 summed : (c : tie.After-two_count) → let x = c.args in
     (trits : List ℕ) → TritsIn trits x.bs.now → length trits ≡ x.l → x.p < x.l → TwosAt trits x.step x.twos.now
     → c.twos_whole-before.result + c.two_count.result ≡ rank 2 trits x.p
-summed c trits T n l W = let w = c.before.before in
+summed c trits T n l W =
+    let w = c.before.before in
     let x = c.args in
     let e : 5 * (x.p / 5) + x.p % 5 ≡ x.p = omega arith in
     omega (

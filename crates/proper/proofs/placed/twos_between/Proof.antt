@@ -57,19 +57,14 @@ returns c trits T l =
 
 pub twos_between_spec : {M : Type 1} → statement M
 twos_between_spec =
-    tie.close (tie.spec invariant-loop
-    decreases-loop
+    tie.close (tie.spec invariant-loop decreases-loop
     (λ c. let t = c.requires.4 in omega (arith, trytes_many t.1, t.3))
     (λ c. (omega arith, omega arith, none c.before))
     (λ c. let p = c.requires in omega (arith, p.1, p.2, p.3, p.4.2, p.4.1.few))
-    (λ c. search rules)
-    (λ c κs. search rules)
+    (λ c. search rules) (λ c κs. search rules)
     (λ c. let t = c.requires.4 in omega (arith, trytes_many t.1, t.3, c.smaller-at.ensures))
     (λ c κs. search rules)
     (λ c κs. let p = c.requires in let t = p.4 in (p.0, (read c t.0 t.1 t.3).low))
     (λ c. omega (arith, small c))
     (λ c. omega (arith, small c, c.requires.3))
-    (λ c. search rules)
-    (λ c. search rules)
-    loop-again
-    returns)
+    (λ c. search rules) (λ c. search rules) loop-again returns)

@@ -23,7 +23,7 @@ few c = let t = c.requires.4 in omega (arith, t.1.few, t.2)
 reach : (c : tie.After-smaller-at) → let x = c.args in
     (c.smaller-at.result ≤ x.q + x.half) × (x.q ≤ c.smaller-at.result + x.half) × (c.smaller-at.result ≤ x.l / 5)
 reach c =
-    let N = nearest c.before.before.before.before in
+    let N = (let p = c.requires in near p.3 p.1 p.2 p.4.4) in
     (omega (arith, N.ahead, c.smaller-at.ensures), omega (arith, N.behind, c.smaller-at.ensures, c.requires.4.4), omega (arith, c.smaller-at.ensures))
 
 sampled : (c : tie.After-smaller-at) → let x = c.args in
@@ -31,7 +31,7 @@ sampled : (c : tie.After-smaller-at) → let x = c.args in
 sampled c trits n W =
     let x = c.args in
     let e : spot trits x.step ((x.q + x.half) / x.step) ≡ c.smaller-at.result = omega (arith, c.smaller-at.ensures) in
-    c.number_at-sample.ensures.0 ∙ W ((x.q + x.half) / x.step) (omega (arith, (nearest c.before.before.before.before).early)) ∙ ap (λ (k : ℕ). rank 2 trits (5 * k)) e
+    c.number_at-sample.ensures.0 ∙ W ((x.q + x.half) / x.step) (omega (arith, (let p = c.requires in near p.3 p.1 p.2 p.4.4).early)) ∙ ap (λ (k : ℕ). rank 2 trits (5 * k)) e
 
 -- the twos between
 between : (c : tie.After-twos_between-n) → let x = c.args in
@@ -51,8 +51,7 @@ twos_near_spec =
     (λ c. search (rules, c.requires.3.some))
     (λ c κs. omega (arith, (nearest c.before.before).low))
     (λ c. let s = c.before.before.before in omega (arith, few s, (nearest s).early))
-    (λ c κs. search rules)
-    (λ c κs. search rules)
+    (λ c κs. search rules) (λ c κs. search rules)
     (λ c. omega (arith, few c.before.before.before.before.before, reach c.before, c.requires.4.4))
     (λ c. omega (arith, c.smaller-from.ensures))
     (λ c κs. let p = c.requires in let t = p.4 in

@@ -41,14 +41,9 @@ returns c =
 
 pub twos_to_spec : {M : Type 1} → statement M
 twos_to_spec =
-    tie.close (tie.spec invariant-loop
-    decreases-loop
+    tie.close (tie.spec invariant-loop decreases-loop
     (λ c. (c.requires.1, λ trits T l e. e))
     (λ c. let t = c.requires.2 in tryte_inside t.1 c.loop-q.q (omega (arith, t.2)))
-    (λ c κs. search rules)
-    two-count-requires
+    (λ c κs. search rules) two-count-requires
     (λ c. omega (arith, few c.before.before.before.before))
-    (λ c. search rules)
-    (λ c. search rules)
-    loop-again
-    returns)
+    (λ c. search rules) (λ c. search rules) loop-again returns)

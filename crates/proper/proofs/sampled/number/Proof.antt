@@ -13,8 +13,7 @@ at_width c w r e h = let x = c.args in h ∙ ap (λ (w : ℕ). read w (x.width *
 
 pub number_spec : {M : Type 1} → statement M
 number_spec =
-    tie.close (tie.spec (λ c. search rules)
-    (λ c κs. search rules)
+    tie.close (tie.spec (λ c. search rules) (λ c κs. search rules)
     (λ c. at_width c.before.before.before 4 _ c.if-width-eq4.true c.get4.ensures.0)
     (λ c κs. search rules)
     (λ c. at_width c.before.before.before.before 2 _ c.if-width-eq2.true c.get2.ensures.0)

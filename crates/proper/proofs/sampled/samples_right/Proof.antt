@@ -9,7 +9,6 @@ use borrow.Author.Rules.{rules}
 use lib.ListN.{length}
 use Rattle.samples.specs.Lent.{TritsIn}
 use Rattle.samples.specs.Samples.{Width}
-use Rattle.proper.specs.Samples.{PairsIn}
 use Rattle.proper.proofs.PairLaws.{same_planned, Passed, pair_room, passed_none, passed_step, passed_wrong, passed_next, passed_all}
 use Rattle.proper.proofs.sampled.samples_right.Statement.{statement}
 use Rattle.proper.proofs.sampled.samples_right.Tie as tie
@@ -21,10 +20,6 @@ invariant-loop bs table part l step fan width many last c₀ q₀ c q =
 abbrev decreases-loop : tie.decreases-loop-q
 decreases-loop bs table part l step fan width many last c₀ q₀ c q = last - q
 
--- the plan is that of all trits that the bytes hold
-plan : (c : tie.Start invariant-loop decreases-loop) → let x = c.args in (trits : List ℕ) → TritsIn trits x.bs.now → length trits ≡ x.l → PairsIn trits x.step x.fan x.width x.part.now
-plan c trits T n = let t = c.requires.1 in same_planned t.1 t.2 t.3 T n
-
 -- the pair of this turn lies in the section
 room : (c : tie.At-loop-q invariant-loop decreases-loop) → let x = c.args in
     Width x.width × (x.width * (2 * (c.loop-q.q + 1)) ≤ length x.part.now)
@@ -32,7 +27,8 @@ room c = let t = c.requires.1 in (t.3.paced.widths, pair_room t.3 t.2 c.loop-q.i
 
 returns : tie.Need-returns-then-not-pair_right invariant-loop decreases-loop
 returns c =
-    λ trits T n. passed_wrong (plan c.before.before.before.before.before.before trits T n) (c.loop-q.invariant.1 trits T n) n c.loop-q.invariant.0 c.pair_right.ensures (ap not c.if-not-pair_right.true)
+    let t = c.requires.1 in
+    λ trits T n. passed_wrong (same_planned t.1 t.2 t.3 T n) (c.loop-q.invariant.1 trits T n) n c.loop-q.invariant.0 c.pair_right.ensures (ap not c.if-not-pair_right.true)
 
 next-counts-requires : tie.Need-next_counts-c-requires invariant-loop decreases-loop
 next-counts-requires c κs =
@@ -44,26 +40,25 @@ loop-again : tie.Need-loop-q-preserved invariant-loop decreases-loop
 loop-again c = (
   omega arith,
   λ trits T n.
-      let P = plan c.before.before.before.before.before.before.before trits T n in
+      let t = c.requires.1 in
+      let P = same_planned t.1 t.2 t.3 T n in
       let S = c.loop-q.invariant.1 trits T n in
       passed_next P S n c.loop-q.invariant.0 c.pair_right.ensures (ap not c.if-not-pair_right.false) (c.next_counts-c.ensures trits (passed_step P S T n c.loop-q-test.true)),
 )
 
 returns-2 : tie.Need-returns invariant-loop decreases-loop
 returns-2 c =
-    λ trits T n. passed_all (plan c.before.before.before.before.before trits T n) (c.loop-q.invariant.1 trits T n) n c.loop-q.invariant.0 c.pair_right-2.ensures (omega arith) (λ i l. omega (arith, c.shared_slice_known-2-1.given i))
+    let t = c.requires.1 in
+    λ trits T n. passed_all (same_planned t.1 t.2 t.3 T n) (c.loop-q.invariant.1 trits T n) n c.loop-q.invariant.0 c.pair_right-2.ensures (omega arith) (λ i l. omega (arith, c.shared_slice_known-2-1.given i))
 
 pub samples_right_spec : {M : Type 1} → statement M
 samples_right_spec =
-    tie.close (tie.spec invariant-loop
-    decreases-loop
+    tie.close (tie.spec invariant-loop decreases-loop
     (λ c. c.requires.1.3.paced.steps)
-    (λ c. (omega arith, λ trits T n. passed_none (plan c.before.before trits T n)))
+    (λ c. let t = c.requires.1 in (omega arith, λ trits T n. passed_none (same_planned t.1 t.2 t.3 T n)))
     (λ c κs. room c.before)
-    returns
-    next-counts-requires
+    returns next-counts-requires
     (λ c. let x = c.args in omega (arith, div-le_self x.l x.step))
-    (λ c. search rules)
-    loop-again
+    (λ c. search rules) loop-again
     (λ c κs. room c.before)
     returns-2)

@@ -21,6 +21,4 @@ pub entry_right_spec : {M : Type 1} → statement M
 entry_right_spec =
     tie.close (tie.spec returns
     (λ c. omega (arith, c.requires c.if-t-ne2.false))
-    get2-requires
-    returns-2
-    returns-3)
+    get2-requires returns-2 returns-3)

@@ -44,24 +44,12 @@ loop-again : tie.Need-loop-p-preserved invariant-loop decreases-loop
 loop-again c =
     let i = c.loop-p.invariant in
     let right = c.if-not-entry_right.false in
-    (i.0, seeing_more i.1 (omega arith) i.0.paired (trit_is c.before.before.before.before) c.entry_right.ensures right _ _ c.one_if-ones.ensures.0 c.one_if-twos.ensures.0)
+    (i.0, seeing_more i.1 (omega arith) i.0.paired (trit_of_lem _ _ _ _ (search rules) c.trit-t.ensures.0) c.entry_right.ensures right _ _ c.one_if-ones.ensures.0 c.one_if-twos.ensures.0)
 
 returns-2 : tie.Need-returns invariant-loop decreases-loop
 returns-2 c = let i = c.loop-p.invariant in λ trits t e. rw (trits_are t e) at (sym (seeing_all i.1 (omega arith)))
 
 pub shadows_right_spec : {M : Type 1} → statement M
 shadows_right_spec =
-    tie.close (tie.spec invariant-loop
-    decreases-loop
-    loop-holds
-    (λ c κs. search rules)
-    entry-right-requires
-    returns
-    (λ c κs. search rules)
-    add-ones
-    (λ c κs. search rules)
-    add-twos
-    (λ c. search rules)
-    (λ c. search rules)
-    loop-again
-    returns-2)
+    tie.close (tie.spec invariant-loop decreases-loop loop-holds (λ c κs. search rules) entry-right-requires returns (λ c κs. search rules) add-ones
+    (λ c κs. search rules) add-twos (λ c. search rules) (λ c. search rules) loop-again returns-2)

@@ -5,4 +5,5 @@ use Rattle.trits.proofs.digits.inverse.Statement.{statement}
 use Rattle.trits.proofs.digits.inverse.Tie as tie
 
 pub inverse_spec : {M : Type 1} → statement M
-inverse_spec = tie.close (tie.spec (λ c κs. c.requires) (λ c. c.one_of.ensures ∙ inverses c.before.args.r c.before.requires))
+inverse_spec = tie.close (tie.spec (λ c κs. c.requires)
+    (λ c. c.one_of.ensures ∙ inverses c.args.r c.requires))

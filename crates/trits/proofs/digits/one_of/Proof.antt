@@ -6,8 +6,7 @@ use Rattle.trits.proofs.digits.one_of.Tie as tie
 
 pub one_of_spec : {M : Type 1} → statement M
 one_of_spec =
-    tie.close (tie.spec
-    (λ c. rw c.in-0.is refl)
+    tie.close (tie.spec (λ c. rw c.in-0.is refl)
     (λ c. rw c.in-1.is refl)
     (λ c. rw c.in-2.is refl)
     (λ c. rw c.in-3.is refl)

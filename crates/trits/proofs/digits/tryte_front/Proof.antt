@@ -11,20 +11,17 @@ use Rattle.trits.proofs.Trytes.{cut_entry, count_few, both}
 use Rattle.trits.proofs.digits.tryte_front.Statement.{statement}
 use Rattle.trits.proofs.digits.tryte_front.Tie as tie
 
-entry : (c : tie.After-wide-e) → let a = c.before.before.before.args in c.wide-e.result ≡ tryte_count 0 a.x a.r + (5 - a.r) + 8 * tryte_count 1 a.x a.r
+entry : (c : tie.After-wide-e) → let a = c.args in c.wide-e.result ≡ tryte_count 0 a.x a.r + (5 - a.r) + 8 * tryte_count 1 a.x a.r
 entry c =
-    let cut = c.before.before in
-    let x = cut.before in
     c.wide-e.ensures.0
-    ∙ ap (λ (l : List ℕ). get_or l cut.tryte_cut-cut.result 0) x.requires.0
-    ∙ ap (λ (i : ℕ). get_or tryte_table i 0) cut.tryte_cut-cut.ensures
-    ∙ cut_entry x.args.x x.args.r x.requires.1 x.requires.2
+    ∙ ap (λ (l : List ℕ). get_or l c.tryte_cut-cut.result 0) c.requires.0
+    ∙ ap (λ (i : ℕ). get_or tryte_table i 0) c.tryte_cut-cut.ensures
+    ∙ cut_entry c.args.x c.args.r c.requires.1 c.requires.2
 
 pub tryte_front_spec : {M : Type 1} → statement M
 tryte_front_spec =
-    tie.close (tie.spec
-    (λ c κs. (omega (arith, c.requires.1), c.requires.2))
-    (λ c. let s = c.before in omega (arith, c.tryte_cut-cut.ensures, mod-le s.args.x (3 ^ s.args.r), s.requires.1))
+    tie.close (tie.spec (λ c κs. (omega (arith, c.requires.1), c.requires.2))
+    (λ c. omega (arith, c.tryte_cut-cut.ensures, mod-le c.args.x (3 ^ c.args.r), c.requires.1))
     (λ c κs. search rules) (λ c. search rules)
-    (λ c. omega (arith, entry c, count_few 0 c.before.before.before.args.x c.before.before.before.args.r))
-    (λ c. let a = c.before.before.before.args in let e = entry c in let f = count_few 0 a.x a.r in both (omega (arith, e, f)) (omega (arith, e, f))))
+    (λ c. omega (arith, entry c, count_few 0 c.args.x c.args.r))
+    (λ c. let a = c.args in let e = entry c in let f = count_few 0 a.x a.r in both (omega (arith, e, f)) (omega (arith, e, f))))

@@ -8,15 +8,14 @@ use Rattle.trits.proofs.digits.tryte_rest.Statement.{statement}
 use Rattle.trits.proofs.digits.tryte_rest.Tie as tie
 
 low : (c : tie.After-inverse) → c.inverse.result ≤ 65537
-low c = omega (arith, c.inverse.ensures, div-le_self 65536 (3 ^ c.before.args.r))
+low c = omega (arith, c.inverse.ensures, div-le_self 65536 (3 ^ c.args.r))
 
 returns : tie.Need-returns
 returns c =
-    let s = c.before in
-    ap (λ (m : ℕ). s.args.x * m / 65536) c.inverse.ensures ∙ rest_is s.args.x s.args.r s.requires.0 s.requires.1
+    ap (λ (m : ℕ). c.args.x * m / 65536) c.inverse.ensures ∙ rest_is c.args.x c.args.r c.requires.0 c.requires.1
 
 pub tryte_rest_spec : {M : Type 1} → statement M
 tryte_rest_spec =
     tie.close (tie.spec (λ c κs. c.requires.1)
-    (λ c. let s = c.before in omega (arith, mul-le-mul_left s.args.x (low c), s.requires.0))
+    (λ c. omega (arith, mul-le-mul_left c.args.x (low c), c.requires.0))
     returns)

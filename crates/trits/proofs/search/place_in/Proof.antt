@@ -38,7 +38,16 @@ module _ (c : tie.Start) where
 
 pub place_in_spec : {M : Type 1} → statement M
 place_in_spec =
-    tie.close (tie.spec (λ c. search rules) (λ c. search rules) (λ c. omega (arith, hits c)) (λ c. search rules)
-    (λ c. omega (arith, hits c)) (λ c. search rules) (λ c. omega (arith, hits c)) (λ c. search rules) (λ c. search rules)
-    (λ c. omega (arith, tests c)) (λ c. search rules) (λ c. omega (arith, tests c)) (λ c. search rules) (λ c. omega (arith, tests c))
+    tie.close (tie.spec (λ c. search rules) (λ c. search rules)
+    (λ c. omega (arith, hits c))
+    (λ c. search rules)
+    (λ c. omega (arith, hits c))
+    (λ c. search rules)
+    (λ c. omega (arith, hits c))
+    (λ c. search rules) (λ c. search rules)
+    (λ c. omega (arith, tests c))
+    (λ c. search rules)
+    (λ c. omega (arith, tests c))
+    (λ c. search rules)
+    (λ c. omega (arith, tests c))
     (λ c. place_is c.args.x c.args.t c.args.k c.requires.0 c.requires.1 c.requires.2 c.requires.3))

@@ -29,24 +29,22 @@ module _ {b : List ℕ} {lay : Layout} (L : Laid b lay) where
   total_is (suc (suc zero)) h = rw L.is (proper L.whole).paired
   total_is (suc (suc (suc t))) h = absurd (omega arith)
 
-laid : (c : tie.After-shared_slice_known-1) → Laid c.before.args.image.now c.before.args.lay
-laid c = accepted c.shared_slice_known-1.given c.before.requires.0 c.before.requires.2
+laid : (c : tie.After-shared_slice_known-1) → Laid c.args.image.now c.args.lay
+laid c = accepted c.shared_slice_known-1.given c.requires.0 c.requires.2
 
-all : (c : tie.After-total) → c.total.result ≡ count_in c.before.before.before.args.t (trits_of c.before.before.before.args.image.now)
-all c = let x = c.before.before.before in c.total.ensures ∙ total_is (laid c.before.before) x.args.t x.requires.3
+all : (c : tie.After-total) → c.total.result ≡ count_in c.args.t (trits_of c.args.image.now)
+all c = c.total.ensures ∙ total_is (laid c.before.before) c.args.t c.requires.3
 
 no-zeroth : tie.Need-returns-then-j-eq0
 unfolding select
 no-zeroth c = rw c.if-j-eq0.true
 
 too_large : tie.Need-returns-then-total-j
-too_large c = let a = c.before.before.before.before.args in sym (select_none a.t (trits_of a.image.now) a.j (omega (arith, all c.before)))
+too_large c = let a = c.args in sym (select_none a.t (trits_of a.image.now) a.j (omega (arith, all c.before)))
 
 find-requires : tie.Need-find-requires
 find-requires c κs =
-    let s = c.before.before.before in
-    let x = s.before in
-    (laid s, x.requires.1, x.requires.3, omega arith, omega (arith, all c.before))
+    (laid c.before.before.before, c.requires.1, c.requires.3, omega arith, omega (arith, all c.before))
 
 found : tie.Need-returns
 found c = let s = c.find.ensures in rw (← s.ranked) (sym (select_at _ _ _ s.inside s.holds))
@@ -54,5 +52,5 @@ found c = let s = c.find.ensures in rw (← s.ranked) (sym (select_at _ _ _ s.in
 pub select_spec : {M : Type 1} → statement M
 select_spec =
     tie.close (tie.spec no-zeroth
-    (λ c κs. (nodes_few (laid c.before), c.before.before.requires.3))
+    (λ c κs. (nodes_few (laid c.before), c.requires.3))
     too_large find-requires found)

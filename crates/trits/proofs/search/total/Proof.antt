@@ -6,7 +6,10 @@ use Rattle.trits.proofs.search.total.Statement.{statement}
 use Rattle.trits.proofs.search.total.Tie as tie
 
 twos : tie.Need-returns
-twos c = let e : c.before.before.args.t ≡ 2 = omega arith in rw e
+twos c = let e : c.args.t ≡ 2 = omega arith in rw e
 
 pub total_spec : {M : Type 1} → statement M
-total_spec = tie.close (tie.spec (λ c. search rules) (λ c. rw c.if-t-eq0.true) (λ c. rw c.if-t-eq1.true) twos)
+total_spec = tie.close (tie.spec (λ c. search rules)
+    (λ c. rw c.if-t-eq0.true)
+    (λ c. rw c.if-t-eq1.true)
+    twos)
