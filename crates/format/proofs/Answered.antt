@@ -7,6 +7,7 @@ use mathlib.Core.Bool.{Bool, true}
 use mathlib.Core.List.{List}
 use lib.Dec.{eqb, leb, lit≤}
 use lib.ListN.{length}
+use Rattle.std.specs.Prelude.{Result, Ok, Err}
 use borrow.Author.Tests.{eqb-true}
 use Rattle.format.specs.Lists.{run, every}
 use Rattle.format.specs.Table.{words}
@@ -16,14 +17,7 @@ use Rattle.format.specs.Unpack.{unpack, unpack_settled, unpack_outcome}
 use Rattle.format.specs.Batch.{batch_outcome}
 use Rattle.format.specs.Packing.{image_of, pack_outcome}
 use Rattle.format.specs.Answers.{stops, refusal_number, packed_numbers, checked_number, unpacked_numbers, asked_number}
-use Rattle.format.specs.declared.Packed.{Packed}
-use Rattle.format.specs.declared.Packed.TheVariants as packed
-use Rattle.format.specs.declared.Checked.{Checked}
-use Rattle.format.specs.declared.Checked.TheVariants as checked
-use Rattle.format.specs.declared.Unpacked.{Unpacked}
-use Rattle.format.specs.declared.Unpacked.TheVariants as unpacked
-use Rattle.format.specs.declared.Asked.{Asked}
-use Rattle.format.specs.declared.Asked.TheVariants as asked
+use Rattle.format.specs.declared.Refusal.{Refusal}
 use Rattle.format.specs.declared.Tally.{Tally}
 use Rattle.format.proofs.Laws.{every_run}
 use Rattle.format.proofs.Steps.{image_code}
@@ -60,23 +54,23 @@ batch_has x l u = all_have 41 3 refl x l (omega arith)
 
 -- ---- packing
 
-pub packing_answers : (table order work buffer : List ℕ) → (r : Packed) × (packed_numbers r ≡ (pack_outcome table order work buffer).returned)
+pub packing_answers : (table order work buffer : List ℕ) → (r : Result ℕ Refusal) × (packed_numbers r ≡ (pack_outcome table order work buffer).returned)
 packing_answers table order work buffer =
-    pack_cases table order work buffer (λ o. (r : Packed) × (packed_numbers r ≡ o.returned))
+    pack_cases table order work buffer (λ o. (r : Result ℕ Refusal) × (packed_numbers r ≡ o.returned))
     (λ f e l u. stop f l (omega arith)) (λ g e. stop 7 (lit≤ tt) (lit≤ tt)) (λ g e w. stop 8 (lit≤ tt) (lit≤ tt)) (λ g e w. stop 9 (lit≤ tt) (lit≤ tt))
-    (λ r. (packed.Image (length (image_of r.of)), refl))
+    (λ r. (Ok (length (image_of r.of)), refl))
   where
-    stop : (x : ℕ) → 1 ≤ x → x ≤ 9 → (r : Packed) × (packed_numbers r ≡ stops x)
-    stop x l u = (packed.Refused (refusal_of x), ap stops (table_has x l u))
+    stop : (x : ℕ) → 1 ≤ x → x ≤ 9 → (r : Result ℕ Refusal) × (packed_numbers r ≡ stops x)
+    stop x l u = (Err (refusal_of x), ap stops (table_has x l u))
 
 -- ---- checking
 
-pub checking_answers : (image : List ℕ) → (r : Checked) × (checked_number r ≡ check_image image)
+pub checking_answers : (image : List ℕ) → (r : Result (Unit {0}) Refusal) × (checked_number r ≡ check_image image)
 checking_answers image = go (image_code image)
   where
-    go : ImageCode (check_image image) → (r : Checked) × (checked_number r ≡ check_image image)
-    go (inl e) = (checked.Proper, sym e)
-    go (inr h) = (checked.Refused (refusal_of (check_image image)), image_has (check_image image) h.0 h.1)
+    go : ImageCode (check_image image) → (r : Result (Unit {0}) Refusal) × (checked_number r ≡ check_image image)
+    go (inl e) = (Ok tt, sym e)
+    go (inr h) = (Err (refusal_of (check_image image)), image_has (check_image image) h.0 h.1)
 
 -- ---- unpacking and batches: a refusal's number has a case
 
@@ -91,21 +85,21 @@ image_known image = go (image_code image)
     go (inl e) = inl e
     go (inr h) = inr (image_has (check_image image) h.0 h.1)
 
-pub unpacking_answers : (image buffer : List ℕ) → (r : Unpacked) × (unpacked_numbers r ≡ (unpack_outcome image buffer).returned)
+pub unpacking_answers : (image buffer : List ℕ) → (r : Result ℕ Refusal) × (unpacked_numbers r ≡ (unpack_outcome image buffer).returned)
 unfolding unpack_outcome refusal_of
 unpacking_answers image buffer =
     let ws : List ℕ = words (unpack (trits_of image) (shadows_of image)) in
     go ws _ (then_in Known (check_image image) (fault 51 (leb (length ws) (length buffer))) (image_known image) (fault_in Known (inl refl) 51 (leb (length ws) (length buffer)) (inr refl)))
   where
-    go : (ws : List ℕ) (x : ℕ) → Known x → (r : Unpacked) × (unpacked_numbers r ≡ (unpack_settled x ws buffer).returned)
-    go ws zero h = (unpacked.Table (length ws), refl)
+    go : (ws : List ℕ) (x : ℕ) → Known x → (r : Result ℕ Refusal) × (unpacked_numbers r ≡ (unpack_settled x ws buffer).returned)
+    go ws zero h = (Ok (length ws), refl)
     go ws (suc x) (inl e) = absurd (omega arith)
-    go ws (suc x) (inr h) = (unpacked.Refused (refusal_of (suc x)), ap stops h)
+    go ws (suc x) (inr h) = (Err (refusal_of (suc x)), ap stops h)
 
-pub batching_answers : (image questions buffer : List ℕ) (t : Tally) → (r : Asked) × (asked_number r ≡ (batch_outcome image questions buffer t).code)
+pub batching_answers : (image questions buffer : List ℕ) (t : Tally) → (r : Result (Unit {0}) Refusal) × (asked_number r ≡ (batch_outcome image questions buffer t).code)
 batching_answers image questions buffer t = go (batch_outcome image questions buffer t).code (batch_codes image questions buffer t)
   where
-    go : (x : ℕ) → BatchCode x → (r : Asked) × (asked_number r ≡ x)
-    go x (inl (inl e)) = (asked.Ran, sym e)
-    go x (inl (inr h)) = (asked.Refused (refusal_of x), image_has x h.0 h.1)
-    go x (inr h) = (asked.Refused (refusal_of x), batch_has x h.0 h.1)
+    go : (x : ℕ) → BatchCode x → (r : Result (Unit {0}) Refusal) × (asked_number r ≡ x)
+    go x (inl (inl e)) = (Ok tt, sym e)
+    go x (inl (inr h)) = (Err (refusal_of x), image_has x h.0 h.1)
+    go x (inr h) = (Err (refusal_of x), batch_has x h.0 h.1)

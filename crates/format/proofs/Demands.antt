@@ -23,12 +23,9 @@ use Rattle.format.specs.Unpack.{unpack, unpack_leaves, unpack_outcome}
 use Rattle.format.specs.Batch.{batch_leaves, batch_outcome, BatchGives}
 use Rattle.format.specs.Listing.{decimal, listing_leaves, listing_outcome, Decimal, ListingGives}
 use Rattle.format.specs.Renumbering.{renumbered, operands_at, users_at, Renumbering}
+use Rattle.std.specs.Prelude.{Result, Option as Maybe}
+use Rattle.format.specs.declared.Refusal.{Refusal}
 use Rattle.format.specs.declared.Answer.{Answer}
-use Rattle.format.specs.declared.Found.{Found}
-use Rattle.format.specs.declared.Packed.{Packed}
-use Rattle.format.specs.declared.Checked.{Checked}
-use Rattle.format.specs.declared.Unpacked.{Unpacked}
-use Rattle.format.specs.declared.Asked.{Asked}
 use Rattle.format.specs.declared.Tally.{Tally}
 use Rattle.format.proofs.TableFaults as table-faults
 use Rattle.format.proofs.Outcomes as outcomes
@@ -283,24 +280,24 @@ demand_3 = promises.demand_3_bytes
 -- ---- "Prove that two outcomes allowed by it are equal": of each contract there is exactly one answer and one content of all that was lent
 
 pub pack_determined : (table order work image : List ℕ)
-    → ExactlyOne (λ (x : Packed × List ℕ × List ℕ × List ℕ). pack_outcome table order work image ≡ pack_leaves x.0 x.1 x.2 x.3)
+    → ExactlyOne (λ (x : Result ℕ Refusal × List ℕ × List ℕ × List ℕ). pack_outcome table order work image ≡ pack_leaves x.0 x.1 x.2 x.3)
 pack_determined = determined.packing
 
-pub check_determined : (image : List ℕ) → ExactlyOne (λ (r : Checked). checked_number r ≡ check_image image)
+pub check_determined : (image : List ℕ) → ExactlyOne (λ (r : Result (Unit {0}) Refusal). checked_number r ≡ check_image image)
 check_determined = determined.checking
 
-pub unpack_determined : (image table : List ℕ) → ExactlyOne (λ (x : Unpacked × List ℕ). unpack_outcome image table ≡ unpack_leaves x.0 x.1)
+pub unpack_determined : (image table : List ℕ) → ExactlyOne (λ (x : Result ℕ Refusal × List ℕ). unpack_outcome image table ≡ unpack_leaves x.0 x.1)
 unpack_determined = determined.unpacking
 
 pub batch_determined : (image questions buffer : List ℕ) (t : Tally)
-    → ExactlyOne (λ (x : Asked × List ℕ × Tally). batch_outcome image questions buffer t ≡ batch_leaves x.0 x.1 x.2)
+    → ExactlyOne (λ (x : Result (Unit {0}) Refusal × List ℕ × Tally). batch_outcome image questions buffer t ≡ batch_leaves x.0 x.1 x.2)
 batch_determined = determined.batching
 
 pub answer_determined : (image : List ℕ) → Below 256 image → check_image image ≡ 0 → (kind a b : ℕ)
-    → ExactlyOne (λ (r : Answer). answer_numbers r ≡ answer (trits_of image) (shadows_of image) kind a b)
+    → ExactlyOne (λ (r : Result Answer Refusal). answer_numbers r ≡ answer (trits_of image) (shadows_of image) kind a b)
 answer_determined = determined.answering
 
-pub select_determined : (trits : List ℕ) (t j : ℕ) → ExactlyOne (λ (r : Found). found_place r ≡ select t trits j)
+pub select_determined : (trits : List ℕ) (t j : ℕ) → ExactlyOne (λ (r : Maybe ℕ). found_place r ≡ select t trits j)
 select_determined = determined.selecting
 
 pub listing_determined : (input buffer : List ℕ) → ExactlyOne (λ (x : ℕ × List ℕ). listing_outcome input buffer ≡ listing_leaves x.0 x.1)

@@ -4,6 +4,7 @@ use Prim.Native.Nat.{ℕ}
 use mathlib.Core.Path.{◌≡◌, refl, sym, ◌∙◌}
 use mathlib.Core.List.{List}
 use mathlib.Core.Option.{Option, none, some}
+use Rattle.std.specs.Prelude.{Result, Option as Maybe, Some, None}
 use Rattle.format.specs.Lists.{Below}
 use Rattle.format.specs.Trits.{select}
 use Rattle.format.specs.Packing.{PackOutcome, pack_leaves, pack_outcome}
@@ -13,12 +14,7 @@ use Rattle.format.specs.Unpack.{UnpackOutcome, unpack_leaves, unpack_outcome}
 use Rattle.format.specs.Batch.{BatchOutcome, batch_leaves, batch_outcome}
 use Rattle.format.specs.Answers.{checked_number, answer_numbers, found_place, ExactlyOne}
 use Rattle.format.specs.declared.Answer.{Answer}
-use Rattle.format.specs.declared.Found.{Found}
-use Rattle.format.specs.declared.Found.TheVariants.{At, Nothing}
-use Rattle.format.specs.declared.Packed.{Packed}
-use Rattle.format.specs.declared.Checked.{Checked}
-use Rattle.format.specs.declared.Unpacked.{Unpacked}
-use Rattle.format.specs.declared.Asked.{Asked}
+use Rattle.format.specs.declared.Refusal.{Refusal}
 use Rattle.format.specs.declared.Tally.{Tally}
 use Rattle.format.specs.Listing.{listing_outcome, listing_leaves, ListingOutcome}
 use Rattle.format.proofs.Answered.{packing_answers, checking_answers, unpacking_answers, batching_answers}
@@ -27,7 +23,7 @@ use Rattle.format.proofs.OneToOne.{packed_one, checked_one, unpacked_one, asked_
 use Rattle.format.proofs.CheckLaws.{image_passed}
 
 pub packing : (table order work image : List ℕ)
-    → ExactlyOne (λ (x : Packed × List ℕ × List ℕ × List ℕ). pack_outcome table order work image ≡ pack_leaves x.0 x.1 x.2 x.3)
+    → ExactlyOne (λ (x : Result ℕ Refusal × List ℕ × List ℕ × List ℕ). pack_outcome table order work image ≡ pack_leaves x.0 x.1 x.2 x.3)
 packing table order work image =
     let o : PackOutcome = pack_outcome table order work image in
     let r = packing_answers table order work image in (
@@ -36,10 +32,10 @@ packing table order work image =
       (λ y e. λ i. (packed_one r.0 y.0 (r.1 ∙ (λ j. (e j).returned)) i, (e i).order, (e i).work, (e i).image)),
     )
 
-pub checking : (image : List ℕ) → ExactlyOne (λ (r : Checked). checked_number r ≡ check_image image)
+pub checking : (image : List ℕ) → ExactlyOne (λ (r : Result (Unit {0}) Refusal). checked_number r ≡ check_image image)
 checking image = let r = checking_answers image in (r.0, r.1, λ y e. checked_one r.0 y (r.1 ∙ sym e))
 
-pub unpacking : (image table : List ℕ) → ExactlyOne (λ (x : Unpacked × List ℕ). unpack_outcome image table ≡ unpack_leaves x.0 x.1)
+pub unpacking : (image table : List ℕ) → ExactlyOne (λ (x : Result ℕ Refusal × List ℕ). unpack_outcome image table ≡ unpack_leaves x.0 x.1)
 unpacking image table =
     let o : UnpackOutcome = unpack_outcome image table in
     let r = unpacking_answers image table in (
@@ -49,7 +45,7 @@ unpacking image table =
     )
 
 pub batching : (image questions buffer : List ℕ) (t : Tally)
-    → ExactlyOne (λ (x : Asked × List ℕ × Tally). batch_outcome image questions buffer t ≡ batch_leaves x.0 x.1 x.2)
+    → ExactlyOne (λ (x : Result (Unit {0}) Refusal × List ℕ × Tally). batch_outcome image questions buffer t ≡ batch_leaves x.0 x.1 x.2)
 batching image questions buffer t =
     let o : BatchOutcome = batch_outcome image questions buffer t in
     let r = batching_answers image questions buffer t in (
@@ -59,17 +55,17 @@ batching image questions buffer t =
     )
 
 pub answering : (image : List ℕ) → Below 256 image → check_image image ≡ 0 → (kind a b : ℕ)
-    → ExactlyOne (λ (r : Answer). answer_numbers r ≡ answer (trits_of image) (shadows_of image) kind a b)
+    → ExactlyOne (λ (r : Result Answer Refusal). answer_numbers r ≡ answer (trits_of image) (shadows_of image) kind a b)
 answering image low e kind a b =
     let r = (fair (trits_of image) (shadows_of image) (image_passed image low e).proper kind a b).has in
     (r.0, r.1, λ y f. answer_one r.0 y (r.1 ∙ sym f))
 
-pub selecting : (trits : List ℕ) (t j : ℕ) → ExactlyOne (λ (r : Found). found_place r ≡ select t trits j)
+pub selecting : (trits : List ℕ) (t j : ℕ) → ExactlyOne (λ (r : Maybe ℕ). found_place r ≡ select t trits j)
 selecting trits t j = let r = found_of (select t trits j) in (r.0, r.1, λ y f. found_one r.0 y (r.1 ∙ sym f))
   where
-    found_of : (o : Option ℕ) → (r : Found) × (found_place r ≡ o)
-    found_of none = (Nothing, refl)
-    found_of (some p) = (At p, refl)
+    found_of : (o : Option ℕ) → (r : Maybe ℕ) × (found_place r ≡ o)
+    found_of none = (None, refl)
+    found_of (some p) = (Some p, refl)
 
 pub listing : (input buffer : List ℕ) → ExactlyOne (λ (x : ℕ × List ℕ). listing_outcome input buffer ≡ listing_leaves x.0 x.1)
 listing input buffer =

@@ -24,7 +24,8 @@ use Rattle.format.specs.Answers.{Answerable}
 use Rattle.format.specs.Unpack.{unpack, unpack_settled, unpack_outcome}
 use Rattle.format.specs.Batch.{answers, batch_ran, batch_settled, tally_holds, batch_fault, batch_outcome, three_words, BatchOutcome}
 use Rattle.format.specs.Packing.{image_of, pack_outcome}
-use Rattle.format.specs.declared.Answer.TheVariants as cases
+use Rattle.std.specs.Prelude.{Ok, Err}
+use Rattle.format.specs.declared.Answer.TheVariants.{Value, Listed}
 use Rattle.format.specs.declared.Sort.TheVariants.{Real, Shadow}
 use Rattle.format.specs.declared.Refusal.TheVariants.{UnknownKind, FirstOutside, SecondOutside}
 use Rattle.format.specs.declared.Tally.{Tally}
@@ -133,21 +134,21 @@ batch_codes image questions buffer t =
 -- ---- one question
 
 fair_31 : Answerable (refused 31)
-fair_31 = record { has = (cases.Refused UnknownKind, refl); codes = inr (lit≤ tt, lit≤ tt); value_fits = lit≤ tt; sort_fits = lit≤ tt }
+fair_31 = record { has = (Err UnknownKind, refl); codes = inr (lit≤ tt, lit≤ tt); value_fits = lit≤ tt; sort_fits = lit≤ tt }
 
 fair_32 : Answerable (refused 32)
-fair_32 = record { has = (cases.Refused FirstOutside, refl); codes = inr (lit≤ tt, lit≤ tt); value_fits = lit≤ tt; sort_fits = lit≤ tt }
+fair_32 = record { has = (Err FirstOutside, refl); codes = inr (lit≤ tt, lit≤ tt); value_fits = lit≤ tt; sort_fits = lit≤ tt }
 
 fair_33 : Answerable (refused 33)
-fair_33 = record { has = (cases.Refused SecondOutside, refl); codes = inr (lit≤ tt, lit≤ tt); value_fits = lit≤ tt; sort_fits = lit≤ tt }
+fair_33 = record { has = (Err SecondOutside, refl); codes = inr (lit≤ tt, lit≤ tt); value_fits = lit≤ tt; sort_fits = lit≤ tt }
 
 fair_plain : (v : ℕ) → v ≤ 125536 → Answerable (plain v)
-fair_plain v h = record { has = (cases.Value v, refl); codes = inl refl; value_fits = h; sort_fits = lit≤ tt }
+fair_plain v h = record { has = (Ok (Value v), refl); codes = inl refl; value_fits = h; sort_fits = lit≤ tt }
 
 fair_listed : (v s : ℕ) → v ≤ 125536 → 0 < s → s < 3 → Answerable (record { code = 0; value = v; sort = s })
 fair_listed v zero h l u = absurd (omega arith)
-fair_listed v (suc zero) h l u = record { has = (cases.Listed (record { node = v; sort = Real }), refl); codes = inl refl; value_fits = h; sort_fits = lit≤ tt }
-fair_listed v (suc (suc zero)) h l u = record { has = (cases.Listed (record { node = v; sort = Shadow }), refl); codes = inl refl; value_fits = h; sort_fits = lit≤ tt }
+fair_listed v (suc zero) h l u = record { has = (Ok (Listed (record { node = v; sort = Real })), refl); codes = inl refl; value_fits = h; sort_fits = lit≤ tt }
+fair_listed v (suc (suc zero)) h l u = record { has = (Ok (Listed (record { node = v; sort = Shadow })), refl); codes = inl refl; value_fits = h; sort_fits = lit≤ tt }
 fair_listed v (suc (suc (suc s))) h l u = absurd (omega arith)
 
 fair_within : (c : ℕ) (t : Bool) (r : Reply) → Answerable (refused c) → (t ≡ true → Answerable r) → Answerable (within c t r)

@@ -1,24 +1,14 @@
 -- Document 01: "For every answer that is an enum, a definition states this paper's number and values for each of the enum's cases, and the
 -- promises use that definition." Assumes nothing.
-use Rattle.std.specs.Prelude.{ℕ, ◌≤◌, ◌≡◌, ◌⊎◌}
+use Rattle.std.specs.Prelude.{ℕ, ◌≤◌, ◌≡◌, ◌⊎◌, Result, Ok, Err, Option as Maybe, Some, None}
 use Rattle.std.proofs.Math.Option.{Option, none, some}
 use Rattle.format.specs.Question.{Reply, refused, plain}
 use Rattle.format.specs.declared.Refusal.{Refusal}
 use Rattle.format.specs.declared.Refusal.TheVariants.{TableEnds, TableTooLarge, OperandOutside, RootOutside, RootTwice, WordsAfterRoots, WorkTooShort, NodeUnreached, ImageTooShort, ImageEnds, ImageTooLarge, TritsWrong, ShadowsWrong, IndexWrong, BytesAfterImage, UnknownKind, FirstOutside, SecondOutside, NotThrees, AnswersTooShort, TallyFull, TableTooShort, InputWrong}
-use Rattle.format.specs.declared.Found.{Found}
-use Rattle.format.specs.declared.Found.TheVariants.{At, Nothing}
 use Rattle.format.specs.declared.Sort.{Sort}
 use Rattle.format.specs.declared.Sort.TheVariants.{Real, Shadow}
 use Rattle.format.specs.declared.Answer.{Answer}
-use Rattle.format.specs.declared.Answer.TheVariants as answers
-use Rattle.format.specs.declared.Packed.{Packed}
-use Rattle.format.specs.declared.Packed.TheVariants as packed
-use Rattle.format.specs.declared.Checked.{Checked}
-use Rattle.format.specs.declared.Checked.TheVariants as checked
-use Rattle.format.specs.declared.Unpacked.{Unpacked}
-use Rattle.format.specs.declared.Unpacked.TheVariants as unpacked
-use Rattle.format.specs.declared.Asked.{Asked}
-use Rattle.format.specs.declared.Asked.TheVariants as asked
+use Rattle.format.specs.declared.Answer.TheVariants.{Value, Listed}
 
 -- the table "Refusal numbers and their order"
 abbrev pub refusal_number : Refusal → ℕ
@@ -58,24 +48,22 @@ abbrev pub stops : ℕ → Numbers
 stops c = record { code = c; value = 0 }
 
 -- success returns the image's length
-abbrev pub packed_numbers : Packed → Numbers
-packed_numbers (packed.Image n) = done n
-packed_numbers (packed.Refused r) = stops (refusal_number r)
+abbrev pub packed_numbers : Result ℕ Refusal → Numbers
+packed_numbers (Ok n) = done n
+packed_numbers (Err r) = stops (refusal_number r)
 
 -- a proper image gives 0
-abbrev pub checked_number : Checked → ℕ
-checked_number checked.Proper = 0
-checked_number (checked.Refused r) = refusal_number r
+abbrev pub checked_number : Result (Unit {0}) Refusal → ℕ
+checked_number (Ok _) = 0
+checked_number (Err r) = refusal_number r
 
 -- unpacking returns the table's length
-abbrev pub unpacked_numbers : Unpacked → Numbers
-unpacked_numbers (unpacked.Table n) = done n
-unpacked_numbers (unpacked.Refused r) = stops (refusal_number r)
+abbrev pub unpacked_numbers : Result ℕ Refusal → Numbers
+unpacked_numbers = packed_numbers
 
 -- a batch that runs returns 0; a refused batch returns its number
-abbrev pub asked_number : Asked → ℕ
-asked_number asked.Ran = 0
-asked_number (asked.Refused r) = refusal_number r
+abbrev pub asked_number : Result (Unit {0}) Refusal → ℕ
+asked_number = checked_number
 
 -- 1 for an edge that wrote 1, 2 for an edge that wrote 2
 abbrev pub sort_number : Sort → ℕ
@@ -83,21 +71,21 @@ sort_number Real = 1
 sort_number Shadow = 2
 
 -- an answer is three words: code, value, sort; a refused question gives its code, 0, 0; otherwise the code is 0
-abbrev pub answer_numbers : Answer → Reply
-answer_numbers (answers.Value v) = plain v
-answer_numbers (answers.Listed nb) = record { code = 0; value = nb.node; sort = sort_number nb.sort }
-answer_numbers (answers.Refused r) = refused (refusal_number r)
+abbrev pub answer_numbers : Result Answer Refusal → Reply
+answer_numbers (Ok (Value v)) = plain v
+answer_numbers (Ok (Listed nb)) = record { code = 0; value = nb.node; sort = sort_number nb.sort }
+answer_numbers (Err r) = refused (refusal_number r)
 
 -- select's place, or nothing
-abbrev pub found_place : Found → Option ℕ
-found_place (At p) = some p
-found_place Nothing = none
+abbrev pub found_place : Maybe ℕ → Option ℕ
+found_place (Some p) = some p
+found_place None = none
 
 -- ---- what statements say of it
 
 -- an answer that has a case; its code is 0 or 31 to 33; its three words are small
 pub record Answerable (r : Reply) : Type 0 where
-  pub has : (x : Answer) × (answer_numbers x ≡ r)
+  pub has : (x : Result Answer Refusal) × (answer_numbers x ≡ r)
   pub codes : (r.code ≡ 0) ⊎ ((31 ≤ r.code) × (r.code ≤ 33))
   pub value_fits : r.value ≤ 125536
   pub sort_fits : r.sort ≤ 2

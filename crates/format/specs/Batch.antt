@@ -1,11 +1,11 @@
 -- Document 01, "Batches of questions": the outcome of a batch. Assumes nothing.
-use Rattle.std.specs.Prelude.{ℕ, zero, suc, ◌+◌, ◌-◌, ◌*◌, ◌/◌, ◌%◌, ◌≤◌, ◌<◌, ◌≡◌, Bool, ◌&&◌, List, [], ◌∷◌, map, eqb, leb, length, get_or, take, drop}
+use Rattle.std.specs.Prelude.{ℕ, zero, suc, ◌+◌, ◌-◌, ◌*◌, ◌/◌, ◌%◌, ◌≤◌, ◌<◌, ◌≡◌, Bool, ◌&&◌, List, [], ◌∷◌, map, eqb, leb, length, get_or, take, drop, Result}
 use Rattle.format.specs.Lists.{each, join, over, count_in}
 use Rattle.format.specs.Faults.{fault, ◌then◌}
 use Rattle.format.specs.Proper.{check_image, trits_of, shadows_of}
 use Rattle.format.specs.Question.{Reply, answer, says}
 use Rattle.format.specs.Answers.{asked_number}
-use Rattle.format.specs.declared.Asked.{Asked}
+use Rattle.format.specs.declared.Refusal.{Refusal}
 use Rattle.format.specs.declared.Tally.{Tally}
 
 -- what a batch returns, and what the answer buffer and the tally then hold
@@ -15,7 +15,7 @@ pub record BatchOutcome : Type 0 where
   pub tally : Tally
 
 -- what an entry that answers r leaves, for its contract
-abbrev pub batch_leaves : Asked → List ℕ → Tally → BatchOutcome
+abbrev pub batch_leaves : Result (Unit {0}) Refusal → List ℕ → Tally → BatchOutcome
 batch_leaves r words tally = record { code = asked_number r; words = words; tally = tally }
 
 -- the questions: three words each

@@ -1,12 +1,12 @@
 -- Document 01, "Refusal numbers and their order": what packing answers, and what it leaves in every buffer. Assumes nothing.
-use Rattle.std.specs.Prelude.{ℕ, zero, suc, ◌*◌, ◌≤◌, ◌≡◌, ◌&&◌, cond, List, T, leb, length, take, replicate}
+use Rattle.std.specs.Prelude.{ℕ, zero, suc, ◌*◌, ◌≤◌, ◌≡◌, ◌&&◌, cond, List, T, leb, length, take, replicate, Result}
 use Rattle.format.specs.Lists.{over, Below}
 use Rattle.format.specs.Faults.{fault, ◌then◌}
 use Rattle.format.specs.Table.{Graph, nodes, Read, faulty, graph, read_table}
 use Rattle.format.specs.Level.{walk, level_order, reached}
 use Rattle.format.specs.Image.{image}
 use Rattle.format.specs.Answers.{Numbers, done, stops, packed_numbers}
-use Rattle.format.specs.declared.Packed.{Packed}
+use Rattle.format.specs.declared.Refusal.{Refusal}
 
 -- the image of a table
 unfoldable pub image_of : Graph → List ℕ
@@ -26,7 +26,7 @@ pub record PackOutcome : Type 0 where
   pub image : List ℕ
 
 -- what an entry that answers r leaves, for its contract: `pack_outcome table order work image ≡ pack_leaves r order' work' image'`
-abbrev pub pack_leaves : Packed → List ℕ → List ℕ → List ℕ → PackOutcome
+abbrev pub pack_leaves : Result ℕ Refusal → List ℕ → List ℕ → List ℕ → PackOutcome
 pack_leaves r order work image = record { returned = packed_numbers r; order = order; work = work; image = image }
 
 -- "the first 3n words of work are zero and the rest as before"

@@ -1,5 +1,5 @@
 -- Demand 2, "Unpacking gives the table in level order"; and what unpacking answers and leaves. Assumes nothing.
-use Rattle.std.specs.Prelude.{ℕ, zero, suc, List, map, leb, length}
+use Rattle.std.specs.Prelude.{ℕ, zero, suc, List, map, leb, length, Result}
 use Rattle.format.specs.Lists.{one_to, over}
 use Rattle.format.specs.Table.{Graph, words}
 use Rattle.format.specs.Image.{node_count, root_count}
@@ -7,7 +7,7 @@ use Rattle.format.specs.Edges.{operand_of, operand_edges}
 use Rattle.format.specs.Faults.{fault, ◌then◌}
 use Rattle.format.specs.Proper.{check_image, trits_of, shadows_of}
 use Rattle.format.specs.Answers.{Numbers, done, stops, unpacked_numbers}
-use Rattle.format.specs.declared.Unpacked.{Unpacked}
+use Rattle.format.specs.declared.Refusal.{Refusal}
 
 -- the operands of each node, as its edges say, and the roots, which have level numbers 1 to c
 unfoldable pub unpack : List ℕ → List ℕ → Graph
@@ -20,7 +20,7 @@ pub record UnpackOutcome : Type 0 where
   pub table : List ℕ
 
 -- what an entry that answers r leaves, for its contract
-abbrev pub unpack_leaves : Unpacked → List ℕ → UnpackOutcome
+abbrev pub unpack_leaves : Result ℕ Refusal → List ℕ → UnpackOutcome
 unpack_leaves r table = record { returned = unpacked_numbers r; table = table }
 
 abbrev pub unpack_settled : ℕ → List ℕ → List ℕ → UnpackOutcome
