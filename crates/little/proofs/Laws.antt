@@ -1,10 +1,12 @@
 -- A number of a + b bytes is one of a and one of b, read and written, so one law serves every width; what is put behind or over what was put is one
 -- put. Assumes nothing.
-use Prim.Native.Nat.{ℕ, zero, suc, ◌+◌, ◌*◌, ◌/◌, ◌^◌, ◌≤◌, ◌<◌}
-use native.Mathlib.Nat.{zero-add, suc-add, add_assoc, mul-add, mul_assoc, div-one, one-mul, pow-zero, pow-succ', div-div-eq-div-mul}
+use Prim.Native.Nat.{ℕ, zero, suc, ◌+◌, ◌-◌, ◌*◌, ◌/◌, ◌%◌, ◌^◌, ◌≤◌, ◌<◌}
+use native.Mathlib.Nat.{zero-add, suc-add, add_assoc, mul-add, mul_assoc, div-one, one-mul, pow-zero, pow-succ', pow-suc, pow-le-pow_right, div-div-eq-div-mul}
+use native.Mathlib.Numerals.{add-one, one-add}
 use native.Mathlib.Omega.{arith}
 use mathlib.Core.Path.{◌≡◌, refl, sym, ◌∙◌}
 use mathlib.Core.List.{List, [], ◌∷◌, ◌++◌, append-nil, append_assoc, map-append}
+use lib.Dec.{lit<}
 use lib.ListN.{length, get_or, take, drop, set, length-drop, length-take, length-append, length-set, take-append-drop}
 use lib.Seq.{take-add, drop-drop, drop-cons, drop_at, append_snoc, set_split, length-take-le, take-append-le, drop-append-le, take-append_seam, drop-append-add}
 use Rattle.format.specs.Lists.{horner, low_digits, spread}
@@ -26,6 +28,26 @@ pub read_add : (a b at : ℕ) (s : List ℕ) → at + a ≤ length s → read (a
 read_add a b at s h =
     let l : length (take a (drop at s)) ≡ a = length-take-le a (drop at s) (omega (arith, length-drop at s)) in
     rw (take-add, horner_append, l, drop-drop)
+
+-- the bytes of a number from place i of them on
+pub record Read (width at i n : ℕ) (s : List ℕ) : Type 0 where
+  pub is : n ≡ read (width - i) (at + i) s
+  pub fits : n < 256 ^ (width - i)
+
+module _ {width at i n : ℕ} {s : List ℕ} (r : Read width at i n s) where
+  pub read_more : {byte : ℕ} → 0 < i → i ≤ width → at + width ≤ length s → byte ≡ get_or s (at + (i - 1)) 0 → byte < 256 → Read width at (i - 1) (256 * n + byte) s
+  read_more {byte} l h inside e low =
+      let j : ℕ = i - 1 in
+      let k : width - j ≡ 1 + (width - i) = omega arith in
+      let one : read 1 (at + j) s ≡ byte = rw (drop-cons s (at + j) 0 (omega arith), e) (omega arith) in
+      let seam : (at + j) + 1 ≡ at + i = omega arith in
+      record {
+        is = rw (k, read_add 1 (width - i) (at + j) s (omega arith), one, seam, ← r.is) (omega arith);
+        fits = rw (k, one-add, pow-succ' 256 (width - i)) (omega (arith, r.fits));
+      }
+
+  pub read_below : width ≤ 8 → n < 2 ^ 64
+  read_below h = omega (arith, r.fits, pow-le-pow_right {n = 256} (lit< tt) {i = width - i} {j = 8} (omega arith))
 
 -- entry i of a section whose contents start at `at`
 pub entry : (w at i : ℕ) (s xs rest : List ℕ) → drop at s ≡ bytes w xs ++ rest → i < length xs → get_or xs i 0 < 256 ^ w → read w (at + w * i) s ≡ get_or xs i 0
@@ -52,6 +74,22 @@ put_more at to l vs ws h seam e e' =
 pub put_add : (a b at n : ℕ) (l : List ℕ) {m r : List ℕ} → at + a ≤ length l → m ≡ put_at l at (le_bytes a n) → r ≡ put_at m (at + a) (le_bytes b (n / 256 ^ a))
     → r ≡ put_at l at (le_bytes (a + b) n)
 put_add a b at n l h e e' = rw digits_add (put_more at (at + a) l (le_bytes a n) (le_bytes b (n / 256 ^ a)) (omega arith) (rw length_digits) e e')
+
+-- a byte put is one list entry set
+put_byte : (l : List ℕ) (i x : ℕ) → i < length l → set l i x ≡ put_at l i (x ∷ [])
+put_byte l i x h = set_split l i x h ∙ simp (append_snoc, add-one)
+
+-- the bytes of a number before byte i are put, and what is left of it
+pub record Puts (at n : ℕ) (old : List ℕ) (i rest : ℕ) (new : List ℕ) : Type 0 where
+  pub left : rest ≡ n / 256 ^ i
+  pub is : new ≡ put_at old at (le_bytes i n)
+
+module _ {at n : ℕ} {old : List ℕ} {i rest : ℕ} {new : List ℕ} (p : Puts at n old i rest new) where
+  pub put_more_byte : at + i < length old → at + i < length new → Puts at n old (i + 1) (rest / 256) (set new (at + i) (rest % 256))
+  put_more_byte old_room room = record {
+    left = rw (p.left, div-div-eq-div-mul, add-one, pow-suc);
+    is = put_add i 1 at n old (omega arith) p.is (put_byte new (at + i) (rest % 256) room ∙ rw p.left);
+  }
 
 -- one number more of a section that is being written behind `front`
 pub put_next : (w x at : ℕ) (l front done rest : List ℕ) → l ≡ front ++ bytes w done ++ rest → at ≡ length front + w * length done
