@@ -78,11 +78,6 @@ module _ {b : List ℕ} {lay : Layout} (L : Laid b lay) where
 
 -- ---- what a level gives
 
--- number i of a level is the number of so many bytes at a place
-pub record NumberAt (b : List ℕ) (s : Samples) (i width at : ℕ) : Type 0 where
-  pub inside : at + width ≤ length b
-  pub reads : read width at b ≡ read s.width (s.at + s.width * i) b
-
 -- z zeros and o ones between multiples first and q of the step leave the twos of the span
 pub record Twos (b : List ℕ) (s : Samples) (first q z o : ℕ) : Type 0 where
   pub short : s.step * (q - first) ≤ 125536
@@ -101,9 +96,6 @@ module _ {b : List ℕ} {s : Samples} (S : Sampled b s) where
 
   pub last_few : s.last ≤ 125536
   last_few = omega (arith, S.last_is, div-le_self (length xs) s.step, few S.whole)
-
-  pub at_width : {i width at : ℕ} → i < 2 * (s.last + 1) → s.width ≡ width → at ≡ s.at + width * i → NumberAt b s i width at
-  at_width {i} h e ea = rw (ea, ← e) (record { inside = S.inside i h; reads = refl })
 
   pub twos : {first q z o : ℕ} → q ≤ s.last → first ≤ q
       → rank 0 xs (s.step * first) + z ≡ rank 0 xs (s.step * q) → rank 1 xs (s.step * first) + o ≡ rank 1 xs (s.step * q)

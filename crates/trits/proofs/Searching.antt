@@ -1,5 +1,6 @@
 -- The search for the t number j stands between two places, and a test at a place between them leaves one side. Assumes nothing.
-use Prim.Native.Nat.{ℕ, ◌+◌, ◌-◌, ◌*◌, ◌/◌, ◌≤◌, ◌<◌}
+use Prim.Native.Nat.{ℕ, ◌+◌, ◌-◌, ◌*◌, ◌/◌, ◌≤◌, ◌<◌, min}
+use native.Mathlib.Decide.{dec_le}
 use native.Mathlib.Nat.{mul_comm, mul_assoc, mul-add, mul-one, mul-le-mul_left, div-eq_of_lt-le, lt_of_mul-lt-mul_left}
 use native.Mathlib.Omega.{arith}
 use mathlib.Core.Path.{◌≡◌, sym}
@@ -75,14 +76,21 @@ module _ {b : List ℕ} {s : Samples} (above : Spot) {t j : ℕ} (S : Sampled b 
   starts len o l f r = record { from = omega arith; some = o; to = l; within = omega arith; between = sooner in_steps r }
 
   -- fan multiples, or as many as there are
-  pub starts_whole : s.fan ≤ s.last - first → Halving t xs j s.step first s.fan s.last first s.fan above.before
+  starts_whole : s.fan ≤ s.last - first → Halving t xs j s.step first s.fan s.last first s.fan above.before
   starts_whole h = starts s.fan S.fans (omega (arith, first_last)) (omega arith) in_steps.reached
 
-  pub starts_cut : s.last - first < s.fan → Halving t xs j s.step first s.fan s.last first (s.last - first + 1) above.before
+  starts_cut : s.last - first < s.fan → Halving t xs j s.step first s.fan s.last first (s.last - first + 1) above.before
   starts_cut h =
       let e : first + (s.last - first + 1) ≡ s.last + 1 = omega (arith, first_last) in
       starts (s.last - first + 1) (omega arith) (omega arith) (omega arith)
       (rw e (omega (arith, in_steps.reached, rank_count t xs (s.step * (first + s.fan)), rank_past t xs (s.step * (s.last + 1)) (omega (arith, past S)))))
+
+  pub starts_min : (len : ℕ) → len ≡ min s.fan (s.last - first + 1) → Halving t xs j s.step first s.fan s.last first len above.before
+  starts_min len is = go (dec_le s.fan (s.last - first))
+    where
+      go : Dec (s.fan ≤ s.last - first) → Halving t xs j s.step first s.fan s.last first len above.before
+      go (yes h) = let e : len ≡ s.fan = omega arith in rw e (starts_whole h)
+      go (no h) = let e : len ≡ s.last - first + 1 = omega arith in rw e (starts_cut (omega arith))
 
   -- what `counted` asks at a multiple between them
   pub mid_first : (mid : ℕ) → first ≤ mid → mid < first + s.fan → first ≡ s.fan * (mid / s.fan)
@@ -107,7 +115,3 @@ module _ {t : ℕ} {xs : List ℕ} {j step first fan last lo len n x : ℕ} (v :
         within = omega arith;
         between = sooner v.between (omega (arith, rank_mono t xs (step * (lo + len / 2)) (step * (lo + (len - len / 2))) (mul-le-mul_left step (omega arith))));
       }
-
-pub halved : {t : ℕ} {xs : List ℕ} {j step first fan last lo len n : ℕ} → Halving t xs j step first fan last lo len n → len ≤ 1
-    → Spotted step t xs j (record { at = lo; before = n })
-halved {t} {xs} {j} {step} {len = len} {n = n} v h = let e : 1 ≡ len = omega arith in rw e v.between

@@ -5,7 +5,7 @@ use native.Mathlib.Omega.{arith}
 use native.Mathlib.Decide.{dec_le}
 use mathlib.Core.Path.{◌≡◌, refl, sym, ap, ◌∙◌}
 use mathlib.Core.Bool.{Bool, true, ◌&&◌, cond}
-use mathlib.Core.List.{List, [], ◌∷◌}
+use mathlib.Core.List.{List}
 use lib.Dec.{eqb, ltb, lit<, lit≤}
 use lib.ListN.{length, get_or, drop}
 use lib.Seq.{get_or-take, get_or-drop}
@@ -48,22 +48,18 @@ count_mono : (t x r s : ℕ) → r ≤ s → tryte_count t x r ≤ tryte_count t
 unfolding tryte_count rank
 count_mono t x r s h = rank_mono t (low_digits 3 5 x) r s h
 
+-- a tryte has five trits
+pub five_trits : (x : ℕ) → tryte_count 0 x 5 + tryte_count 1 x 5 + tryte_count 2 x 5 ≡ 5
+unfolding tryte_count rank
+five_trits x = rank_three (low_digits 3 5 x) (below_digits 3 5 x (lit< tt)) 5 (omega (arith, length_digits 3 5 x))
+
 -- a table entry, taken apart
 pub record Parts (x e : ℕ) : Type 0 where
   pub zeros : e % 8 ≡ tryte_count 0 x 5
   pub ones : e / 8 ≡ tryte_count 1 x 5
-  pub twos : e % 8 + e / 8 + tryte_count 2 x 5 ≡ 5
 
 pub entry_parts : (x e : ℕ) → x < 243 → e ≡ get_or tryte_table x 0 → Parts x e
-unfolding tryte_count rank
-entry_parts x e h is =
-    omega (
-      arith,
-      tryte_entry x h,
-      count_few 0 x 5,
-      count_few 1 x 5,
-      rank_three (low_digits 3 5 x) (below_digits 3 5 x (lit< tt)) 5 (omega (arith, length_digits 3 5 x)),
-    )
+entry_parts x e h is = omega (arith, tryte_entry x h, count_few 0 x 5, count_few 1 x 5)
 
 every_from : (f : ℕ → Bool) (n : ℕ) → every f (run 0 n) ≡ true → (i : ℕ) → i < n → f i ≡ true
 every_from f n e i l = ap f (sym (zero-add i)) ∙ every_run f 0 n e i l
@@ -81,13 +77,6 @@ pub cut_entry : (x r : ℕ) → x < 243 → r < 5 → get_or tryte_table (x % 3 
 unfolding cut_right
 cut_entry x r h l =
     eqb-true _ _ (every_from (λ r. eqb (get_or tryte_table (x % 3 ^ r) 0) (tryte_count 0 x r + (5 - r) + 8 * tryte_count 1 x r)) 5 (every_from cut_right 243 all_cut x h) r l)
-
--- the powers of three, and the numbers that a product with takes the place of a division by them
-pub powers : (r : ℕ) → r < 5 → get_or (1 ∷ 3 ∷ 9 ∷ 27 ∷ 81 ∷ []) r 0 ≡ 3 ^ r
-powers r l = eqb-true _ _ (every_from (λ r. eqb (get_or (1 ∷ 3 ∷ 9 ∷ 27 ∷ 81 ∷ []) r 0) (3 ^ r)) 5 refl r l)
-
-pub inverses : (r : ℕ) → r < 5 → get_or (65537 ∷ 21846 ∷ 7282 ∷ 2428 ∷ 810 ∷ []) r 0 ≡ 65536 / 3 ^ r + 1
-inverses r l = eqb-true _ _ (every_from (λ r. eqb (get_or (65537 ∷ 21846 ∷ 7282 ∷ 2428 ∷ 810 ∷ []) r 0) (65536 / 3 ^ r + 1)) 5 refl r l)
 
 -- the product is the quotient, for every byte
 rest_right : ℕ → Bool

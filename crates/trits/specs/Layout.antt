@@ -1,8 +1,9 @@
 -- The numbers of a proper image, where the contents of its sections start, and its three levels of samples. Assumes nothing.
-use Rattle.std.specs.Prelude.{ℕ, zero, suc, ◌+◌, ◌/◌, ◌≡◌, List, length}
+use Rattle.std.specs.Prelude.{ℕ, ◌+◌, ◌/◌, ◌≡◌, List, length}
 use Rattle.format.specs.Image.{node_count, root_count, marked_nodes, before, sizes}
 use Rattle.format.specs.Proper.{trits_of, shadows_of, Whole}
 use Rattle.trits.specs.declared.Layout.{Layout}
+use Rattle.trits.specs.declared.Plan.{Plan}
 use Rattle.trits.specs.declared.Samples.{Samples}
 
 -- by L, n, c, k and h: a section's contents start after the sections before it and its own count
@@ -38,6 +39,10 @@ pub record Laid (b : List ℕ) (lay : Layout) : Type 0 where
   pub whole : Whole b
   pub is : lay ≡ layout_of b
 
+-- the samples of a plan from byte `at` on, over L trits
+abbrev pub samples_of : Plan → ℕ → ℕ → Samples
+samples_of p at L = record { at = at; width = p.width; step = p.step; fan = p.fan; last = L / p.step }
+
 -- the three levels of samples: sections 6, 7 and 8
 abbrev pub far_of : Layout → Samples
 far_of lay = record { at = lay.at6; width = 4; step = 65725; fan = 2; last = lay.trits / 65725 }
@@ -47,9 +52,3 @@ middle_of lay = record { at = lay.at7; width = 2; step = 275; fan = 239; last = 
 
 abbrev pub near_of : Layout → Samples
 near_of lay = record { at = lay.at8; width = 1; step = 25; fan = 11; last = lay.trits / 25 }
-
--- n + 1 zeros, n ones, k twos
-abbrev pub total_of : Layout → ℕ → ℕ
-total_of lay zero = lay.nodes + 1
-total_of lay (suc zero) = lay.nodes
-total_of lay (suc (suc t)) = lay.shadows

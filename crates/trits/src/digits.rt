@@ -1,14 +1,13 @@
 // The five trits of one tryte, by the table and one by one.
-ghost use Rattle.std.specs.Prelude.{◌≡◌, [], ◌∷◌, ◌+◌, ◌*◌, ◌/◌, ◌%◌, ◌^◌, ◌≤◌, ◌<◌, length, get_or};
+ghost use Rattle.std.specs.Prelude.{◌≡◌, ◌+◌, ◌*◌, ◌/◌, ◌%◌, ◌^◌, ◌≤◌, ◌<◌, length, get_or};
 ghost use Rattle.format.specs.Lists.{spread};
 ghost use Rattle.format.specs.Trits.{tryte_count, tryte_table};
 ghost use Rattle.trits.specs.Search.{front_of};
 
 use crate::Ranks;
-use little::wide;
 
 // Zeros + 8 · ones of the five trits of every tryte.
-const TABLE: [u8; 243] = [
+pub static TABLE: [u8; 243] = [
     5, 12, 4, 12, 19, 11, 4, 11, 3, 12, 19, 11, 19, 26, 18, 11, 18, 10, 4, 11, 3, 11, 18, 10, 3,
     10, 2, 12, 19, 11, 19, 26, 18, 11, 18, 10, 19, 26, 18, 26, 33, 25, 18, 25, 17, 11, 18, 10, 18,
     25, 17, 10, 17, 9, 4, 11, 3, 11, 18, 10, 3, 10, 2, 11, 18, 10, 18, 25, 17, 10, 17, 9, 3, 10, 2,
@@ -21,34 +20,17 @@ const TABLE: [u8; 243] = [
     10, 17, 9, 17, 24, 16, 9, 16, 8, 2, 9, 1, 9, 16, 8, 1, 8, 0,
 ];
 
-// The table, for a caller to bind once and lend.
-pub fn tryte_table() -> [u8; 243]
-    ensures { result ≡ tryte_table }
-{
-    TABLE
-}
+// The powers of 3, and a little more than 65,536 divided by each.
+static POWERS: [usize; 5] = [1, 3, 9, 27, 81];
 
-// Value number `r` of five. The last arm is never reached: with it the others are a table, and no branch is to be guessed.
-fn one_of(r: usize, a: usize, b: usize, c: usize, d: usize, e: usize) -> usize
-    requires { r < 5 }
-    ensures { result ≡ get_or (a ∷ b ∷ c ∷ d ∷ e ∷ []) r 0 }
-{
-    match r {
-        0 => a,
-        1 => b,
-        2 => c,
-        3 => d,
-        4 => e,
-        _ => 0,
-    }
-}
+static INVERSES: [usize; 5] = [65537, 21846, 7282, 2428, 810];
 
 // 3 to the power `r`.
 fn power(r: usize) -> usize
     requires { r < 5 }
     ensures { result ≡ 3 ^ r }
 {
-    one_of(r, 1, 3, 9, 27, 81)
+    POWERS[r]
 }
 
 // A little more than 65,536 / 3^r.
@@ -56,7 +38,7 @@ fn inverse(r: usize) -> usize
     requires { r < 5 }
     ensures { result ≡ 65536 / 3 ^ r + 1 }
 {
-    one_of(r, 65537, 21846, 7282, 2428, 810)
+    INVERSES[r]
 }
 
 // Tryte `x` without its first `r` trits. By a product: a division by a power that changes from call to call is slow.
@@ -89,33 +71,40 @@ pub fn trit(trytes: &[u8], p: usize) -> usize
     requires { p < 5 * length trytes.now }
     ensures { (result ≡ get_or (spread 3 5 trytes.now) p 0) × (result < 3) }
 {
-    let q = p / 5;
-    let x = wide(trytes[q]);
-    digit(x, p % 5)
+    digit(usize::from(trytes[p / 5]), p % 5)
 }
 
-// How often `t` stands in tryte `x`, by the table.
-pub fn tryte_count(table: &[u8; 243], x: usize, t: usize) -> usize
-    requires { (table.now ≡ tryte_table) × (x < 243) × (t < 3) }
+// The zeros and ones of tryte `x`, by the table.
+pub fn tryte_ranks(x: usize) -> Ranks
+    requires { x < 243 }
+    ensures { (result ≡ front_of x 5) × (result.zeros + result.ones ≤ 5) }
+{
+    let e = usize::from(TABLE[x]);
+    Ranks {
+        zeros: e % 8,
+        ones: e / 8,
+    }
+}
+
+// How often `t` stands in tryte `x`.
+pub fn tryte_count(x: usize, t: usize) -> usize
+    requires { (x < 243) × (t < 3) }
     ensures { (result ≡ tryte_count t x 5) × (result ≤ 5) }
 {
-    let e = wide(table[x]);
-    if t == 0 {
-        return e % 8;
+    let all = tryte_ranks(x);
+    match t {
+        0 => all.zeros,
+        1 => all.ones,
+        _ => 5 - all.zeros - all.ones,
     }
-    if t == 1 {
-        return e / 8;
-    }
-    5 - e % 8 - e / 8
 }
 
 // The zeros and ones of the first `r` trits of tryte `x`.
-pub fn tryte_front(table: &[u8; 243], x: usize, r: usize) -> Ranks
-    requires { (table.now ≡ tryte_table) × (x < 243) × (r < 5) }
+pub fn tryte_front(x: usize, r: usize) -> Ranks
+    requires { (x < 243) × (r < 5) }
     ensures { result ≡ front_of x r }
 {
-    let cut = tryte_cut(x, r);
-    let e = wide(table[cut]);
+    let e = usize::from(TABLE[tryte_cut(x, r)]);
     Ranks {
         zeros: e % 8 - (5 - r),
         ones: e / 8,

@@ -1,0 +1,6 @@
+-- It counts as `counted_place` does.
+use Rattle.trits.proofs.Trytes.{place_is}
+use Rattle.trits.proofs.search.place_in.Goals as goal
+
+pub returns : goal.returns
+returns c = place_is c.args.x c.args.t c.args.k c.requires.0 c.requires.1 c.requires.2 c.requires.3
