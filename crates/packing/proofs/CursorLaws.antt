@@ -1,4 +1,5 @@
 -- The trits that are left determine the cursor: so the contracts of `first`, `step` and `next_tryte` allow one answer each. Assumes nothing.
+use Rattle.std.specs.Prelude.{Option, Some, None}
 use mathlib.Core.Path.{◌≡◌, refl, sym, ap, ◌∙◌}
 use mathlib.Core.List.{List, [], ◌∷◌, ◌++◌}
 use Prim.Native.Nat.{ℕ, ◌+◌, ◌≤◌}
@@ -12,9 +13,8 @@ use Rattle.format.proofs.Walks.{see_cases}
 use Rattle.packing.specs.Work.{graph_of}
 use Rattle.packing.specs.Stream.{row_end, Stands, Rest, Wrote, Stepped, Took}
 use Rattle.packing.specs.declared.stream.Cursor.{Cursor}
-use Rattle.packing.specs.declared.stream.Next.{Next}
 use Rattle.packing.specs.declared.stream.Trit.{Trit}
-use Rattle.packing.specs.declared.stream.Trit.TheVariants.{End, Real, Shadow, Done}
+use Rattle.packing.specs.declared.stream.Trit.TheVariants.{End, Real, Shadow}
 
 -- an operand writes a trit, and a row's end one
 row_length : (vs : List ℕ) (w : Walk) → length (close (see_all vs w)).trits ≡ length w.trits + length vs + 1
@@ -66,47 +66,44 @@ module _ {t : List ℕ} {n : ℕ} where
   pub first_one : {c c' : Cursor} → Rest t n (walk (graph_of t)) c → Rest t n (walk (graph_of t)) c' → c ≡ c'
   first_one r r' = rest_one r r' refl
 
-  pub took_determined : {k : ℕ} {left : Walk} {r r' : Next} → Took t n k left r → Took t n k left r' → r ≡ r'
-  took_determined {r = r} {r' = r'} p p' =
-      let v : r.value ≡ r'.value = p.value ∙ sym p'.value in
-      let c : r.cursor ≡ r'.cursor = rest_one p.rest p'.rest (p.trits ∙ sym p'.trits) in
-      λ i. record { value = v i; cursor = c i }
+  pub took_determined : {k : ℕ} {left : Walk} {v v' : ℕ} {c c' : Cursor} → Took t n k left v c → Took t n k left v' c' → (v ≡ v') × (c ≡ c')
+  took_determined p p' = (p.value ∙ sym p'.value, rest_one p.rest p'.rest (p.trits ∙ sym p'.trits))
 
 -- a step's trit; 3 where none is left
-abbrev trit_of : Trit → ℕ
-trit_of (End c) = 0
-trit_of (Real c) = 1
-trit_of (Shadow p c) = 2
-trit_of Done = 3
+abbrev trit_of : Option Trit → ℕ
+trit_of (Some End) = 0
+trit_of (Some Real) = 1
+trit_of (Some (Shadow p)) = 2
+trit_of None = 3
 
-module _ (t : List ℕ) (n : ℕ) (left : Walk) where
-  told : (r : Trit) → Stepped t n left r → get_or left.trits 0 3 ≡ trit_of r
-  told (End c) s = ap (λ (l : List ℕ). get_or l 0 3) s.trits
-  told (Real c) s = ap (λ (l : List ℕ). get_or l 0 3) s.trits
-  told (Shadow p c) s = ap (λ (l : List ℕ). get_or l 0 3) s.trits
-  told Done s = ap (λ (l : List ℕ). get_or l 0 3) s.0
+told : (t : List ℕ) (n : ℕ) (left : Walk) (c : Cursor) (r : Option Trit) → Stepped t n left r c → get_or left.trits 0 3 ≡ trit_of r
+told t n left c (Some End) s = ap (λ (l : List ℕ). get_or l 0 3) s.trits
+told t n left c (Some Real) s = ap (λ (l : List ℕ). get_or l 0 3) s.trits
+told t n left c (Some (Shadow p)) s = ap (λ (l : List ℕ). get_or l 0 3) s.trits
+told t n left c None s = ap (λ (l : List ℕ). get_or l 0 3) s.0
 
-  wrote_one : {a : ℕ} {H H' : List ℕ} {c c' : Cursor} → Wrote t n a H left c → Wrote t n a H' left c' → c ≡ c'
+module _ (t : List ℕ) (n : ℕ) (left : Walk) {c c' : Cursor} where
+  wrote_one : {a : ℕ} {H H' : List ℕ} → Wrote t n a H left c → Wrote t n a H' left c' → c ≡ c'
   wrote_one w w' = rest_one w.rest w'.rest (ap (drop 1) (sym w.trits ∙ w'.trits))
 
-  pub step_determined : (r r' : Trit) → Stepped t n left r → Stepped t n left r' → r ≡ r'
-  step_determined r r' s s' = go r r' s s' (sym (told r s) ∙ told r' s')
+  pub step_determined : (r r' : Option Trit) → Stepped t n left r c → Stepped t n left r' c' → (r ≡ r') × (c ≡ c')
+  step_determined r r' s s' = go r r' s s' (sym (told t n left c r s) ∙ told t n left c' r' s')
     where
-      go : (r r' : Trit) → Stepped t n left r → Stepped t n left r' → trit_of r ≡ trit_of r' → r ≡ r'
-      go (End c) (End c') s s' e = ap End (wrote_one s s')
-      go (Real c) (Real c') s s' e = ap Real (wrote_one s s')
-      go (Shadow p c) (Shadow p' c') s s' e =
-          let h : p ≡ p' = ap (λ (l : List ℕ). get_or l 0 0) (sym s.shadows ∙ s'.shadows) in λ i. Shadow (h i) (wrote_one s s' i)
-      go Done Done s s' e = refl
-      go (End c) (Real c') s s' e = absurd (omega arith)
-      go (End c) (Shadow p c') s s' e = absurd (omega arith)
-      go (End c) Done s s' e = absurd (omega arith)
-      go (Real c) (End c') s s' e = absurd (omega arith)
-      go (Real c) (Shadow p c') s s' e = absurd (omega arith)
-      go (Real c) Done s s' e = absurd (omega arith)
-      go (Shadow p c) (End c') s s' e = absurd (omega arith)
-      go (Shadow p c) (Real c') s s' e = absurd (omega arith)
-      go (Shadow p c) Done s s' e = absurd (omega arith)
-      go Done (End c') s s' e = absurd (omega arith)
-      go Done (Real c') s s' e = absurd (omega arith)
-      go Done (Shadow p c') s s' e = absurd (omega arith)
+      go : (r r' : Option Trit) → Stepped t n left r c → Stepped t n left r' c' → trit_of r ≡ trit_of r' → (r ≡ r') × (c ≡ c')
+      go (Some End) (Some End) s s' e = (refl, wrote_one s s')
+      go (Some Real) (Some Real) s s' e = (refl, wrote_one s s')
+      go (Some (Shadow p)) (Some (Shadow p')) s s' e =
+          let h : p ≡ p' = ap (λ (l : List ℕ). get_or l 0 0) (sym s.shadows ∙ s'.shadows) in (λ i. Some (Shadow (h i)), wrote_one s s')
+      go None None s s' e = (refl, rest_one s.2 s'.2 refl)
+      go (Some End) (Some Real) s s' e = absurd (omega arith)
+      go (Some End) (Some (Shadow p)) s s' e = absurd (omega arith)
+      go (Some End) None s s' e = absurd (omega arith)
+      go (Some Real) (Some End) s s' e = absurd (omega arith)
+      go (Some Real) (Some (Shadow p)) s s' e = absurd (omega arith)
+      go (Some Real) None s s' e = absurd (omega arith)
+      go (Some (Shadow p)) (Some End) s s' e = absurd (omega arith)
+      go (Some (Shadow p)) (Some Real) s s' e = absurd (omega arith)
+      go (Some (Shadow p)) None s s' e = absurd (omega arith)
+      go None (Some End) s s' e = absurd (omega arith)
+      go None (Some Real) s s' e = absurd (omega arith)
+      go None (Some (Shadow p)) s s' e = absurd (omega arith)

@@ -1,4 +1,5 @@
 -- From what these functions ensure to what packing says of a table and of the buffers. Assumes nothing.
+use Rattle.std.specs.Prelude.{Result, Ok, Err}
 use mathlib.Core.Path.{◌≡◌, refl, sym, ap, ◌∙◌, subst}
 use mathlib.Core.Logic.{◌⊎◌, inl, inr}
 use mathlib.Core.Bool.{true}
@@ -14,8 +15,7 @@ use Rattle.format.specs.Table.{Graph, nodes, edges, Read, faulty, graph, read_ta
 use Rattle.format.specs.Level.{walk, level_order, reached}
 use Rattle.format.specs.Image.{node_count, marked, marked_nodes}
 use Rattle.format.specs.Packing.{image_of, cleared, pack_outcome, pack_leaves}
-use Rattle.format.specs.declared.Packed.{Packed}
-use Rattle.format.specs.declared.Packed.TheVariants.{Image, Refused}
+use Rattle.format.specs.declared.Refusal.{Refusal}
 use Rattle.format.specs.declared.Refusal.TheVariants.{WorkTooShort, NodeUnreached, ImageTooShort}
 use Rattle.format.proofs.Laws.{length_run, length_keep}
 use Rattle.format.proofs.Order.{Packable, counts, fits_length}
@@ -30,7 +30,7 @@ use Rattle.trits.specs.Layout.{layout}
 use Rattle.packing.specs.declared.table.Sizes.{Sizes}
 use Rattle.packing.specs.Sizes.{sizes_of}
 use Rattle.packing.specs.Work.{graph_or, graph_of, Sized, start_of, Kept, WorkAt}
-use Rattle.packing.specs.Stream.{Walked}
+use Rattle.packing.specs.Walked.{Walked}
 use Rattle.packing.specs.Packed.{graph_layout, Planned, Measured, Ordered, Uncleared}
 use Rattle.format.proofs.Over.{over_all, over_behind}
 use Rattle.packing.proofs.RunLaws.{formed, limits}
@@ -73,24 +73,24 @@ cleared_same b l l' e k =
 -- ---- what packing leaves: first with work as the walk or `put_image` left it, then with work cleared
 
 module _ {t : List ℕ} {z : Sizes} (s : Measured t z) where
-  pub outcome_7 : (order work image : List ℕ) → (length work < 3 * z.nodes) ⊎ (length order < z.nodes) → pack_outcome t order work image ≡ pack_leaves (Refused WorkTooShort) order work image
+  pub outcome_7 : (order work image : List ℕ) → (length work < 3 * z.nodes) ⊎ (length order < z.nodes) → pack_outcome t order work image ≡ pack_leaves (Err WorkTooShort) order work image
   outcome_7 order work image h = pack_7 t order work image (graph_of t) s.sized.read (rw s.sized.many h)
 
   clears : (old work : List ℕ) → length work ≡ length old → Kept 0 (3 * z.nodes) old work → cleared (graph_of t) old ≡ over (replicate (3 * z.nodes) 0) work
   clears old work e k = rw s.sized.many (sym (cleared_same (3 * z.nodes) old work e k))
 
   pub uncleared_8 : {tail : ℕ} {order work image : List ℕ} → WorkAt t z.nodes (walk (graph_of t)) tail work → tail < z.nodes → z.nodes ≤ length order
-      → Uncleared t z.nodes order work image (Refused NodeUnreached) order work image
+      → Uncleared t z.nodes order work image (Err NodeUnreached) order work image
   unfolding reached level_order
   uncleared_8 {order = order} {work = work} {image = image} w l o = record {
     outcome = λ old e k.
         let many = s.sized.many in
         pack_8 t order old image (graph_of t) s.sized.read (omega (arith, w.held.room)) (omega arith)
         (ne_eqb (length (walk (graph_of t)).queue) (nodes (graph_of t)) (λ q. omega (arith, w.held.tail_is)))
-        ∙ ap (λ (x : List ℕ). pack_leaves (Refused NodeUnreached) order x image) (clears old work e k);
+        ∙ ap (λ (x : List ℕ). pack_leaves (Err NodeUnreached) order x image) (clears old work e k);
   }
 
-pub now_cleared : {t : List ℕ} {n : ℕ} {order work image : List ℕ} {r : Packed} {order' work' image' x : List ℕ} → Uncleared t n order work image r order' work' image'
+pub now_cleared : {t : List ℕ} {n : ℕ} {order work image : List ℕ} {r : Result ℕ Refusal} {order' work' image' x : List ℕ} → Uncleared t n order work image r order' work' image'
     → (old : List ℕ) → length work ≡ length old → Kept 0 (3 * n) old work → x ≡ over (replicate (3 * n) 0) work'
     → pack_outcome t order old image ≡ pack_leaves r order' x image'
 now_cleared {r = r} {order' = order'} {image' = image'} u old e k q = u.outcome old e k ∙ ap (λ (y : List ℕ). pack_leaves r order' y image') (sym q)
@@ -175,12 +175,12 @@ module _ {t order work : List ℕ} {z : Sizes} (o : Ordered t order work z) wher
     unfolding graph_layout
     size_small = let f = totals in omega (arith, ap (λ (l : Layout). l.at9) laid, s.sized.many)
 
-    pub uncleared_9 : {image : List ℕ} → length image < size → Uncleared t n order work image (Refused ImageTooShort) order work image
+    pub uncleared_9 : {image : List ℕ} → length image < size → Uncleared t n order work image (Err ImageTooShort) order work image
     uncleared_9 {image} l = record {
       outcome = λ old e k.
           let many = s.sized.many in
           pack_9 t order old image g s.sized.read (omega (arith, o.walked.held.room)) (omega (arith, o.order_room)) reaches (omega (arith, image_size))
-          ∙ ap (λ (x : List ℕ). pack_leaves (Refused ImageTooShort) order x image) (clears s old work e k);
+          ∙ ap (λ (x : List ℕ). pack_leaves (Err ImageTooShort) order x image) (clears s old work e k);
     }
 
     laid_nodes : lay.nodes ≡ n
@@ -192,7 +192,7 @@ module _ {t order work : List ℕ} {z : Sizes} (o : Ordered t order work z) wher
       planned = record { walked = subst (λ (k : ℕ). Walked t k work) (sym laid_nodes) o.walked; laid = laid; room = omega (arith, image_size) }
 
       pub uncleared_done : {order' work' image' : List ℕ} → order' ≡ over (walk g).queue order → length work' ≡ length work → work' ≡ over (group_ends (walk g).trits (walk g).shadows) work
-          → image' ≡ over (image_of g) image → Uncleared t n order work image (Image size) order' work' image'
+          → image' ≡ over (image_of g) image → Uncleared t n order work image (Ok size) order' work' image'
       unfolding level_order
       uncleared_done {work' = work'} a b d f = record {
         outcome = λ old e k.
@@ -200,5 +200,5 @@ module _ {t order work : List ℕ} {z : Sizes} (o : Ordered t order work z) wher
             let ends = over_all (group_ends (walk g).trits (walk g).shadows) n work (length_ends _ _ ∙ totals.ones) (omega (arith, o.walked.held.room)) in
             let kept : Kept 0 (3 * n) old work' = λ i z. ap (λ (x : List ℕ). get_or x i 0) d ∙ over_behind ends i (omega (arith, z zero-le)) ∙ k i z in
             pack_done t order old image g s.sized.read (omega (arith, o.walked.held.room)) (omega (arith, o.order_room)) reaches (omega (arith, image_size))
-            ∙ (λ i. pack_leaves (Image (sym image_size i)) (sym a i) (clears s old work' (b ∙ e) kept i) (sym f i));
+            ∙ (λ i. pack_leaves (Ok (sym image_size i)) (sym a i) (clears s old work' (b ∙ e) kept i) (sym f i));
       }

@@ -5,12 +5,16 @@ use Prim.Native.Nat.{ℕ, zero, suc, ◌+◌, ◌-◌, ◌≤◌, ◌<◌}
 use native.Mathlib.Nat.{add-zero}
 use native.Mathlib.Numerals.{add-one}
 use native.Mathlib.Omega.{arith}
-use lib.ListN.{length, get_or, take, drop, length-append, length-drop, take-append-drop, drop_of_length-le}
-use lib.Seq.{take-suc, drop-cons, get_or-drop, drop-append_seam, take-append_seam, drop-drop}
+use lib.ListN.{length, get_or, take, drop, length-append, length-take, length-drop, take-append-drop, drop_of_length-le}
+use lib.Seq.{take-suc, drop-cons, get_or-take, get_or-drop, drop-append_seam, take-append_seam, drop-drop}
 use Rattle.format.specs.Table.{Graph, nodes, operands_of, Node, counted, list_words, words, WellFormed, WithinLimits}
 use Rattle.format.proofs.Reading.{words_read}
 use Rattle.format.proofs.Outcomes.{length_runs}
 use Rattle.packing.specs.Work.{graph_of, Sized, start_of, run_at}
+
+-- an element of a part of a list
+pub part_at : (l : List ℕ) (a b i : ℕ) → i < length (take (b - a) (drop a l)) → get_or (take (b - a) (drop a l)) i 0 ≡ get_or l (a + i) 0
+part_at l a b i h = get_or-take (b - a) (drop a l) i 0 (omega (arith, length-take (b - a) (drop a l))) ∙ get_or-drop a l i 0
 
 -- xs stand in the table, after their count at p
 pub record Run (t : List ℕ) (p : ℕ) (xs : List ℕ) : Type 0 where

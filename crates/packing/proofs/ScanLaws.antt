@@ -9,12 +9,20 @@ use native.Mathlib.Omega.{arith}
 use lib.ListN.{length, get_or, drop, length-append, length-drop, drop_of_length-le}
 use lib.Seq.{drop-cons, drop-drop, drop-append_seam}
 use borrow.Author.Tests.{lt-leb, ne_eqb}
+use Rattle.std.specs.Prelude.{Result, Err}
+use Rattle.std.specs.Result.{IsErrAnd}
+use Rattle.std.proofs.lemmas.Result.{err_from_is_err_and}
+use Rattle.format.specs.declared.Refusal.{Refusal}
 use Rattle.format.specs.Lists.{number_in}
 use Rattle.format.specs.Table.{Graph, edges, is_node, list_words, Got, stopped, got, and_then, word, read_operands, read_nodes, read_roots, read_graph, whole_table, read_table, read_end}
 use Rattle.format.proofs.Laws.{is_node_node}
 use Rattle.format.proofs.Reading.{operand_on, next_lists, count_on, root_on, with_roots, size_on, Holds, Operands, got_operands, Rows, got_nodes, words_read}
 use Rattle.format.proofs.Outcomes.{length_runs, length_words}
 use Rattle.packing.specs.Sizes.{step_of, sizes_of, Lists}
+
+-- what `?` hands on
+pub handed : {T : Type 0} {f : Refusal} {r : Result T Refusal} → IsErrAnd r (λ e. e ≡ f) → r ≡ Err f
+handed {r = r} h = let p = err_from_is_err_and r h in p.1 ∙ ap Err p.2
 
 -- ---- places
 
@@ -39,9 +47,9 @@ step_made t make (got x ws) = refl
 -- ---- operands
 
 module _ (n : ℕ) (t : List ℕ) (at : ℕ) where
-  pub operands_none : (k : ℕ) → k ≡ 0 → at ≤ length t → inl at ≡ step_of t (read_operands n k (drop at t))
+  pub operands_none : (k p : ℕ) → k ≡ 0 → p ≡ at → at ≤ length t → inl p ≡ step_of t (read_operands n k (drop at t))
   unfolding read_operands
-  operands_none k z h = rw z (step_here t at {X = List ℕ} [] h)
+  operands_none k p z e h = rw (z, e) (step_here t at {X = List ℕ} [] h)
 
   module _ (k j : ℕ) (more : k ≡ suc j) where
     pub operands_short : length t ≤ at → inr 1 ≡ step_of t (read_operands n k (drop at t))
@@ -53,9 +61,9 @@ module _ (n : ℕ) (t : List ℕ) (at : ℕ) where
       unfolding read_operands word
       operand_outside b = rw (more, word_in t at h, ← is, b)
 
-      pub operand_next : is_node n v ≡ true → step_of t (read_operands n j (drop (at + 1) t)) ≡ step_of t (read_operands n k (drop at t))
-      operand_next b =
-          rw (more, word_in t at h, ← is, operand_on n j v (drop (at + 1) t) (is_node_node n v b)) (step_made t _ (read_operands n j (drop (at + 1) t)))
+      pub operand_next : is_node n v ≡ true → (p : ℕ) → p ≡ at + 1 → step_of t (read_operands n j (drop p t)) ≡ step_of t (read_operands n k (drop at t))
+      operand_next b p e =
+          rw (e, more, word_in t at h, ← is, operand_on n j v (drop (at + 1) t) (is_node_node n v b)) (step_made t _ (read_operands n j (drop (at + 1) t)))
 
 -- ---- what follows a thing read
 
@@ -108,9 +116,9 @@ module _ (n : ℕ) (t : List ℕ) (at m : ℕ) where
 -- ---- roots, after those in `before`
 
 module _ (n : ℕ) (t : List ℕ) (at : ℕ) (before : List ℕ) where
-  pub roots_none : (k : ℕ) → k ≡ 0 → at ≤ length t → inl at ≡ step_of t (read_roots n k before (drop at t))
+  pub roots_none : (k p : ℕ) → k ≡ 0 → p ≡ at → at ≤ length t → inl p ≡ step_of t (read_roots n k before (drop at t))
   unfolding read_roots
-  roots_none k z h = rw z (step_here t at {X = List ℕ} [] h)
+  roots_none k p z e h = rw (z, e) (step_here t at {X = List ℕ} [] h)
 
   module _ (k j : ℕ) (more : k ≡ suc j) where
     pub roots_short : length t ≤ at → inr 1 ≡ step_of t (read_roots n k before (drop at t))
@@ -126,10 +134,10 @@ module _ (n : ℕ) (t : List ℕ) (at : ℕ) (before : List ℕ) where
       unfolding read_roots word
       root_twice b old = rw (more, word_in t at h, ← is, b, ne_eqb _ _ old)
 
-      pub root_next : is_node n v ≡ true → number_in v before ≡ 0
-          → step_of t (read_roots n j (before ++ v ∷ []) (drop (at + 1) t)) ≡ step_of t (read_roots n k before (drop at t))
-      root_next b new =
-          rw (more, word_in t at h, ← is, root_on n j before v (drop (at + 1) t) (is_node_node n v b) new)
+      pub root_next : is_node n v ≡ true → number_in v before ≡ 0 → (p : ℕ) → p ≡ at + 1
+          → step_of t (read_roots n j (before ++ v ∷ []) (drop p t)) ≡ step_of t (read_roots n k before (drop at t))
+      root_next b new p e =
+          rw (e, more, word_in t at h, ← is, root_on n j before v (drop (at + 1) t) (is_node_node n v b) new)
           (step_made t _ (read_roots n j (before ++ v ∷ []) (drop (at + 1) t)))
 
 -- ---- the whole table

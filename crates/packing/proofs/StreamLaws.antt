@@ -1,9 +1,9 @@
 -- One trit more: where the cursor stands, the walk has still to write that trit and then the rest. Assumes nothing.
 use mathlib.Core.Path.{◌≡◌, refl, sym, ap, ◌∙◌}
 use mathlib.Core.List.{List, [], ◌∷◌, ◌++◌, append_assoc, append-nil, append_cancel_left}
-use Prim.Native.Nat.{ℕ, zero, suc, ◌+◌, ◌-◌, ◌*◌, ◌%◌, ◌≤◌, ◌<◌}
-use native.Mathlib.Nat.{add-zero, add-suc}
-use native.Mathlib.Numerals.{add-one, one-add}
+use Prim.Native.Nat.{ℕ, zero, suc, ◌+◌, ◌-◌, ◌*◌, ◌%◌, ◌^◌, ◌≤◌, ◌<◌}
+use native.Mathlib.Nat.{add-zero, add-suc, pow-zero, pow-succ'}
+use native.Mathlib.Numerals.{add-one}
 use native.Mathlib.Omega.{arith}
 use lib.ListN.{length, get_or, take, drop, length-append, get_or-append}
 use lib.Seq.{take-nil, drop-drop}
@@ -15,9 +15,9 @@ use Rattle.format.proofs.Places.{number_in_lem, number_new, number_le}
 use Rattle.format.proofs.Outcomes.{length_words}
 use Rattle.format.proofs.Walks.{see_at, see_cases, empty}
 use Rattle.packing.specs.Work.{graph_of, Sized, start_of}
-use Rattle.packing.specs.Stream.{Walked, plus, row_end, Stands, Rest, Standing, Wrote, Took}
+use Rattle.packing.specs.Walked.{Walked}
+use Rattle.packing.specs.Stream.{plus, row_end, Stands, Rest, Wrote, Took}
 use Rattle.packing.specs.declared.stream.Cursor.{Cursor}
-use Rattle.packing.specs.declared.stream.Next.{Next}
 use Rattle.packing.proofs.ScanLaws.{word_in}
 use Rattle.packing.proofs.RunLaws.{are_words, roots_run, operands_end}
 use Rattle.packing.proofs.HeldLaws.{seen_mod, queued, queued_node}
@@ -190,11 +190,6 @@ module _ {t : List ℕ} {n : ℕ} {left : Walk} {c : Cursor} (r : Rest t n left 
       past = λ h. absurd (omega (arith, upto));
     }
 
-    pub ones_small : c.ones ≤ n
-    ones_small =
-        let o = onto_trans (onto_see v so) onto in
-        omega (arith, r.stands.ones, ap (λ (x : Walk). length x.queue) o.is, length-append so.queue o.more.queue, k.held.tail_is)
-
     -- its level number is what it is after it was seen
     in_walk : (j : ℕ) → number_in v (see v so).queue ≡ suc j → number_in v (walk g).queue ≡ suc j
     in_walk j e = ap (λ (x : Walk). number_in v x.queue) onto.is ∙ number_in_lem v j (see v so).queue onto.more.queue e
@@ -276,17 +271,17 @@ module _ {t : List ℕ} {n : ℕ} {left : Walk} {c : Cursor} (r : Rest t n left 
           ended _ (omega arith) (stands_row (c.i + 1) (taken_turn at ea) (omega arith) j ej e z.0 c.ones (ones_end (omega arith)) z.1)
 
     -- the last zero
-    pub last : c.i ≡ n → Wrote t n 0 [] left (record { i = n + 1; at = c.at; left = 0; ones = c.ones })
+    pub last : c.i ≡ n → Wrote t n 0 [] left (record { i = c.i + 1; at = c.at; left = c.left; ones = c.ones })
     unfolding walk
     last e = ended _ (omega arith) (record {
-      rows = omega (arith, (counts_end (omega arith)).0);
+      rows = (counts_end (omega arith)).0;
       reals = (counts_end (omega arith)).1;
       ones = ones_end (omega arith);
-      inside = omega (arith, r.stands.inside);
-      are_nodes = tt;
+      inside = r.stands.inside;
+      are_nodes = rw none tt;
       row = λ y. absurd (omega arith);
       ends = λ y. absurd (omega arith);
-      past = λ y. (refl, ap (turns g) (e ∙ sym k.sized.many), refl, omega (arith, r.stands.ends (omega arith), ap (row_end t) e));
+      past = λ y. (none, ap (turns g) (e ∙ sym k.sized.many), omega arith, omega (arith, r.stands.ends (omega arith), ap (row_end t) e));
     })
 
   pub none_left : n < c.i → (left.trits ≡ []) × (left.shadows ≡ [])
@@ -296,26 +291,34 @@ module _ {t : List ℕ} {n : ℕ} {left : Walk} {c : Cursor} (r : Rest t n left 
 
 -- ---- trits as a number
 
-pub took_one : {t : List ℕ} {n a : ℕ} {H : List ℕ} {left : Walk} {d : Cursor} → Wrote t n a H left d → Took t n 1 left (record { value = a; cursor = d })
+pub took_zero : {t : List ℕ} {n : ℕ} {left : Walk} {c : Cursor} → Rest t n left c → Took t n 0 left 0 c
+took_zero {left = left} r = record { value = refl; next = left; trits = refl; rest = r }
+
+pub took_one : {t : List ℕ} {n a : ℕ} {H : List ℕ} {left : Walk} {d : Cursor} → Wrote t n a H left d → Took t n 1 left a d
 took_one w = record { value = rw w.trits (omega arith); next = w.next; trits = rw w.trits refl; rest = w.rest }
 
-pub took_none : {t : List ℕ} {n : ℕ} {left : Walk} {c : Cursor} → left.trits ≡ [] → Rest t n left c → Took t n 1 left (record { value = 0; cursor = c })
+pub took_none : {t : List ℕ} {n : ℕ} {left : Walk} {c : Cursor} → left.trits ≡ [] → Rest t n left c → Took t n 1 left 0 c
 took_none {left = left} e r = record { value = rw e refl; next = left; trits = rw e refl; rest = r }
 
-horner_more : (k : ℕ) (ts : List ℕ) → horner 3 (take (suc k) ts) ≡ horner 3 (take 1 ts) + 3 * horner 3 (take k (drop 1 ts))
-horner_more k [] = rw (take-nil k) refl
-horner_more k (x ∷ ts) = omega arith
+horner_more : (k : ℕ) (ts : List ℕ) → horner 3 (take (suc k) ts) ≡ horner 3 (take k ts) + 3 ^ k * horner 3 (take 1 (drop k ts))
+horner_more zero ts = omega (arith, pow-zero 3)
+horner_more (suc k) [] = omega (arith, ap (horner 3) (take-nil {A = ℕ} 1))
+horner_more (suc k) (x ∷ ts) = omega (arith, horner_more k ts, ap (λ (p : ℕ). p * horner 3 (take 1 (drop k ts))) (pow-succ' 3 k))
 
-pub took_more : {t : List ℕ} {n : ℕ} {left : Walk} {a b : Next} (k : ℕ) (p : Took t n 1 left a) → Took t n k p.next b
-    → Took t n (suc k) left (record { value = a.value + 3 * b.value; cursor = b.cursor })
-took_more {left = left} k p q = record {
-  value = omega (arith, p.value, q.value, horner_more k left.trits, ap (λ (l : List ℕ). horner 3 (take k l)) p.trits);
+pub took_more : {t : List ℕ} {n k : ℕ} {left : Walk} {a b : ℕ} {c d : Cursor} (p : Took t n k left a c) → Took t n 1 p.next b d
+    → Took t n (k + 1) left (a + 3 ^ k * b) d
+took_more {k = k} {left = left} {a = a} {b = b} p q = record {
+  value = rw add-one (omega (arith, p.value, horner_more k left.trits, ap (λ (x : ℕ). 3 ^ k * x) (q.value ∙ ap (λ (l : List ℕ). horner 3 (take 1 l)) p.trits)));
   next = q.next;
-  trits = q.trits ∙ ap (drop k) p.trits ∙ drop-drop k 1 left.trits ∙ ap (λ (j : ℕ). drop j left.trits) (one-add k);
+  trits = q.trits ∙ ap (drop 1) p.trits ∙ drop-drop 1 k left.trits;
   rest = q.rest;
 }
 
--- what a step tells of every `left`, and that the cursor after it stands somewhere too
-pub tells : {t : List ℕ} {n : ℕ} {work : List ℕ} {c : Cursor} (r : Next) → Standing t n work c → ((left : Walk) → Rest t n left c → Took t n 1 left r)
-    → Standing t n work r.cursor × ((left : Walk) → Rest t n left c → Took t n 1 left r)
-tells r s took = (record { walked = s.walked; left = (took s.left s.rest).next; rest = (took s.left s.rest).rest }, took)
+-- the weights of the five trits of a tryte
+pub weights : (k : ℕ) → k < 5 → (get_or (1 ∷ 3 ∷ 9 ∷ 27 ∷ 81 ∷ []) k 0 ≡ 3 ^ k) × (3 ^ k ≤ 81)
+weights zero h = (refl, omega arith)
+weights (suc zero) h = (refl, omega arith)
+weights (suc (suc zero)) h = (refl, omega arith)
+weights (suc (suc (suc zero))) h = (refl, omega arith)
+weights (suc (suc (suc (suc zero)))) h = (refl, omega arith)
+weights (suc (suc (suc (suc (suc k))))) h = absurd (omega arith)

@@ -1,16 +1,16 @@
 -- What the packer's last functions hand to each other: a walked table, the layout of its image, and buffers with room. Assumes nothing.
-use Rattle.std.specs.Prelude.{ℕ, ◌*◌, ◌≤◌, ◌≡◌, List, [], ◌∷◌, length, replicate, take}
+use Rattle.std.specs.Prelude.{ℕ, ◌*◌, ◌≤◌, ◌≡◌, List, [], ◌∷◌, length, replicate, take, Result}
 use Rattle.format.specs.Lists.{over}
 use Rattle.format.specs.Table.{Graph, nodes, edges}
 use Rattle.format.specs.Level.{walk}
 use Rattle.format.specs.Image.{marked_nodes, node_count, section1, section2, written, image}
 use Rattle.format.specs.Packing.{image_of, pack_outcome, pack_leaves}
-use Rattle.format.specs.declared.Packed.{Packed}
+use Rattle.format.specs.declared.Refusal.{Refusal}
 use Rattle.trits.specs.declared.Layout.{Layout}
 use Rattle.trits.specs.Layout.{layout}
 use Rattle.packing.specs.declared.table.Sizes.{Sizes}
 use Rattle.packing.specs.Work.{graph_of, Sized, Kept}
-use Rattle.packing.specs.Stream.{Walked}
+use Rattle.packing.specs.Walked.{Walked}
 use Rattle.format.specs.Proper.{ProperTrits}
 
 -- the layout of a graph's image
@@ -58,6 +58,6 @@ pub record Ordered (table order work : List ℕ) (s : Sizes) : Type 0 where
   pub walked : Walked table s.nodes work
 
 -- whatever work was before the walk, packing answers r and leaves order', image', and work' with its first 3n words cleared
-pub record Uncleared (table : List ℕ) (n : ℕ) (order work image : List ℕ) (r : Packed) (order' work' image' : List ℕ) : Type 0 where
+pub record Uncleared (table : List ℕ) (n : ℕ) (order work image : List ℕ) (r : Result ℕ Refusal) (order' work' image' : List ℕ) : Type 0 where
   pub outcome : (old : List ℕ) → length work ≡ length old → Kept 0 (3 * n) old work
       → pack_outcome table order old image ≡ pack_leaves r order' (over (replicate (3 * n) 0) work') image'

@@ -1,19 +1,16 @@
 -- The answers of the functions that read a table, in numbers, beside what the definition reads. Assumes nothing.
-use Rattle.std.specs.Prelude.{ℕ, suc, ◌+◌, ◌-◌, ◌≡◌, ◌⊎◌, List, length, drop}
+use Rattle.std.specs.Prelude.{ℕ, suc, ◌+◌, ◌-◌, ◌≡◌, ◌⊎◌, List, length, drop, Result, Ok, Err}
 use Rattle.std.proofs.Common.{inl, inr}
 use Rattle.format.specs.Lists.{sum_of}
 use Rattle.format.specs.Table.{nodes, edges, Got, stopped, got, read_graph, Read, faulty, graph, read_end}
 use Rattle.format.specs.Answers.{refusal_number}
-use Rattle.packing.specs.declared.table.Step.{Step}
-use Rattle.packing.specs.declared.table.Step.TheVariants.{At, Bad}
+use Rattle.format.specs.declared.Refusal.{Refusal}
 use Rattle.packing.specs.declared.table.Sizes.{Sizes}
-use Rattle.packing.specs.declared.table.Scanned.{Scanned}
-use Rattle.packing.specs.declared.table.Scanned.TheVariants.{Sound, Fault}
 
 -- a place, or the number of a fault
-abbrev pub place_of : Step → ℕ ⊎ ℕ
-place_of (At p) = inl p
-place_of (Bad r) = inr (refusal_number r)
+abbrev pub place_of : Result ℕ Refusal → ℕ ⊎ ℕ
+place_of (Ok p) = inl p
+place_of (Err r) = inr (refusal_number r)
 
 -- the same of what was read: the place in the table of the first word that is left
 abbrev pub step_of : {X : Type 0} → List ℕ → Got X → ℕ ⊎ ℕ
@@ -21,9 +18,9 @@ step_of table (stopped f) = inr f
 step_of table (got x ws) = inl (length table - length ws)
 
 -- n, m and c, or the number of a fault
-abbrev pub sizes : Scanned → Sizes ⊎ ℕ
-sizes (Sound s) = inl s
-sizes (Fault r) = inr (refusal_number r)
+abbrev pub sizes : Result Sizes Refusal → Sizes ⊎ ℕ
+sizes (Ok s) = inl s
+sizes (Err r) = inr (refusal_number r)
 
 abbrev pub sizes_of : Read → Sizes ⊎ ℕ
 sizes_of (faulty f) = inr f

@@ -1,17 +1,12 @@
 -- What the walk has still to write where a cursor stands. Assumes nothing.
-use Rattle.std.specs.Prelude.{◌≡◌, List, [], ◌∷◌, ◌++◌, ℕ, zero, suc, ◌+◌, ◌≤◌, ◌<◌, length, get_or, take, drop}
+use Rattle.std.specs.Prelude.{◌≡◌, List, [], ◌∷◌, ◌++◌, ℕ, zero, suc, ◌+◌, ◌-◌, ◌*◌, ◌≤◌, ◌<◌, length, get_or, take, drop, Option, Some, None}
 use Rattle.format.specs.Lists.{All, count_in, horner}
 use Rattle.format.specs.Table.{Node}
 use Rattle.format.specs.Level.{Walk, see_all, close, turns, walk}
-use Rattle.packing.specs.Work.{graph_of, start_of, WorkAt}
+use Rattle.packing.specs.Work.{graph_of, start_of}
 use Rattle.packing.specs.declared.stream.Cursor.{Cursor}
-use Rattle.packing.specs.declared.stream.Next.{Next}
 use Rattle.packing.specs.declared.stream.Trit.{Trit}
-use Rattle.packing.specs.declared.stream.Trit.TheVariants.{End, Real, Shadow, Done}
-
--- the buffer after the walk through a table, whose n nodes are all reached
-abbrev pub Walked : List ℕ → ℕ → List ℕ → Type 0
-Walked table n work = WorkAt table n (walk (graph_of table)) n work
+use Rattle.packing.specs.declared.stream.Trit.TheVariants.{End, Real, Shadow}
 
 -- what two walks write, one after the other
 abbrev pub plus : Walk → Walk → Walk
@@ -41,10 +36,14 @@ pub record Rest (table : List ℕ) (n : ℕ) (left : Walk) (c : Cursor) : Type 0
   pub all : walk (graph_of table) ≡ plus sofar left
   pub twos : count_in 2 left.trits ≡ length left.shadows
 
-pub record Standing (table : List ℕ) (n : ℕ) (work : List ℕ) (c : Cursor) : Type 0 where
-  pub walked : Walked table n work
+-- for some `left`
+pub record Standing (table : List ℕ) (n : ℕ) (c : Cursor) : Type 0 where
   pub left : Walk
   pub rest : Rest table n left c
+
+-- falls with each trit: a row has at most 65,535 operands
+abbrev pub ahead : ℕ → Cursor → ℕ
+ahead n c = (n + 1 - c.i) * 65536 + c.left
 
 -- of `left` the trit t is written, and the shadows H
 pub record Wrote (table : List ℕ) (n t : ℕ) (H : List ℕ) (left : Walk) (c : Cursor) : Type 0 where
@@ -53,16 +52,16 @@ pub record Wrote (table : List ℕ) (n t : ℕ) (H : List ℕ) (left : Walk) (c 
   pub shadows : left.shadows ≡ H ++ next.shadows
   pub rest : Rest table n next c
 
--- what a step says of `left`
-abbrev pub Stepped : List ℕ → ℕ → Walk → Trit → Type 0
-Stepped table n left (End c) = Wrote table n 0 [] left c
-Stepped table n left (Real c) = Wrote table n 1 [] left c
-Stepped table n left (Shadow p c) = Wrote table n 2 (p ∷ []) left c
-Stepped table n left Done = (left.trits ≡ []) × (left.shadows ≡ [])
+-- what a step to the cursor c says of `left`
+abbrev pub Stepped : List ℕ → ℕ → Walk → Option Trit → Cursor → Type 0
+Stepped table n left (Some End) c = Wrote table n 0 [] left c
+Stepped table n left (Some Real) c = Wrote table n 1 [] left c
+Stepped table n left (Some (Shadow p)) c = Wrote table n 2 (p ∷ []) left c
+Stepped table n left None c = (left.trits ≡ []) × (left.shadows ≡ []) × Rest table n left c
 
--- k trits were taken, as a number
-pub record Took (table : List ℕ) (n k : ℕ) (left : Walk) (r : Next) : Type 0 where
-  pub value : r.value ≡ horner 3 (take k left.trits)
+-- k trits were taken, whose number is v
+pub record Took (table : List ℕ) (n k : ℕ) (left : Walk) (v : ℕ) (c : Cursor) : Type 0 where
+  pub value : v ≡ horner 3 (take k left.trits)
   pub next : Walk
   pub trits : next.trits ≡ drop k left.trits
-  pub rest : Rest table n next r.cursor
+  pub rest : Rest table n next c

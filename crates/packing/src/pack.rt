@@ -3,30 +3,35 @@ ghost use Rattle.std.specs.Prelude.{◌≡◌};
 ghost use Rattle.format.specs.Packing.{pack_outcome, pack_leaves};
 ghost use Rattle.packing.specs.Packed.{Lent, Ordered, Uncleared};
 
-use crate::table::{Scanned, Sizes, scan};
-use format::{Packed, Refusal};
+use crate::image::put_image;
+use crate::table::{Sizes, scan};
+use crate::walk::{clear, count_marked, order_nodes, put_order};
+use format::Refusal;
 
 // An image buffer too short, or the order list and the image; the walk is in the work, which is not cleared here.
-fn put_all(table: &[u16], order: &mut [u16], work: &mut [u32], image: &mut [u8], s: Sizes) -> Packed
+fn put_all(
+    table: &[u16],
+    order: &mut [u16],
+    work: &mut [u32],
+    image: &mut [u8],
+    s: Sizes,
+) -> Result<usize, Refusal>
     requires { Ordered table.now order.old work.old s }
     ensures { Uncleared table.now s.nodes order.old work.old image.old result
         order.new work.new image.new }
 {
     let n = s.nodes;
-    let roots = s.roots;
-    let uses = s.edges + roots;
-    let marked = crate::walk::count_marked(work, n);
-    let total = n + uses + 1;
-    let shadows = uses - n;
-    let lay = trits::lay_out(total, n, roots, shadows, marked);
-    let at9 = lay.at9;
-    let size = at9 + 2 * ((n + 63) / 64);
-    if image.len() < size {
-        return Packed::Refused(Refusal::ImageTooShort);
+    let uses = s.edges + s.roots;
+    let marked = count_marked(work, n);
+    let lay = trits::lay_out(n + uses + 1, n, s.roots, uses - n, marked);
+    let size = lay.at9 + 2 * ((n + 63) / 64);
+    let fits = size <= image.len();
+    if !fits {
+        return Err(Refusal::ImageTooShort);
     }
-    crate::walk::put_order(work, n, order);
-    crate::image::put_image(table, work, image, lay);
-    Packed::Image(size)
+    put_order(work, n, order);
+    put_image(table, work, image, lay);
+    Ok(size)
 }
 
 // A node that no root reaches, or what `put_all` answers; the work is cleared.
@@ -36,38 +41,35 @@ fn pack_nodes(
     work: &mut [u32],
     image: &mut [u8],
     s: Sizes,
-) -> Packed
+) -> Result<usize, Refusal>
     requires { Lent table.now order.old work.old s }
     ensures { pack_outcome table.now order.old work.old image.old
         ≡ pack_leaves result order.new work.new image.new }
 {
     let n = s.nodes;
-    let tail = crate::walk::order_nodes(table, work, n);
+    let tail = order_nodes(table, work, n);
     if tail < n {
-        crate::walk::clear(work, n);
-        return Packed::Refused(Refusal::NodeUnreached);
+        clear(work, n);
+        return Err(Refusal::NodeUnreached);
     }
     let r = put_all(table, order, work, image, s);
-    crate::walk::clear(work, n);
+    clear(work, n);
     r
 }
 
 // Packs a table into lent buffers.
-pub fn pack(table: &[u16], order: &mut [u16], work: &mut [u32], image: &mut [u8]) -> Packed
+pub fn pack(
+    table: &[u16],
+    order: &mut [u16],
+    work: &mut [u32],
+    image: &mut [u8],
+) -> Result<usize, Refusal>
     ensures { pack_outcome table.now order.old work.old image.old
         ≡ pack_leaves result order.new work.new image.new }
 {
-    match scan(table) {
-        Scanned::Fault(f) => Packed::Refused(f),
-        Scanned::Sound(s) => {
-            let n = s.nodes;
-            if work.len() < 3 * n {
-                return Packed::Refused(Refusal::WorkTooShort);
-            }
-            if order.len() < n {
-                return Packed::Refused(Refusal::WorkTooShort);
-            }
-            pack_nodes(table, order, work, image, s)
-        }
+    let s = scan(table)?;
+    if work.len() < 3 * s.nodes || order.len() < s.nodes {
+        return Err(Refusal::WorkTooShort);
     }
+    pack_nodes(table, order, work, image, s)
 }

@@ -1,8 +1,8 @@
 // The trits of a table, one at a time, out of the work buffer that the walk has filled.
-ghost use Rattle.std.specs.Prelude.{◌≡◌, ◌≤◌, ◌<◌};
+ghost use Rattle.std.specs.Prelude.{◌≡◌, ◌≤◌, ◌<◌, Some, IfSome};
 ghost use Rattle.format.specs.Level.{Walk, walk};
 ghost use Rattle.packing.specs.Work.{graph_of, start_of};
-ghost use Rattle.packing.specs.Stream.{Walked, Rest, Standing, Stepped, Took};
+ghost use Rattle.packing.specs.Walked.{Walked, walked_props};
 
 // i rows are ended; `left` operands of the row are left, from `at` on in the table; `ones` ones are written.
 #[derive(Clone, Copy)]
@@ -13,145 +13,111 @@ pub struct Cursor {
     pub ones: usize,
 }
 
-// The next trit, with the cursor after it: 0 at a row's end, 1 for a real operand, 2 for a shadow, with its level number.
+// A trit: 0 at a row's end, 1 for a real operand, 2 for a shadow, with its level number.
 #[derive(Clone, Copy)]
 pub enum Trit {
-    End(Cursor),
-    Real(Cursor),
-    Shadow(usize, Cursor),
-    Done,
+    End,
+    Real,
+    Shadow(usize),
 }
 
-// The cursor before the first trit; `at` is the place of the count of roots.
-pub fn first(table: &[u16], work: &[u32], n: usize, at: usize) -> Cursor
-    requires { Walked table.now n work.now × (at ≡ start_of (graph_of table.now) n) }
-    ensures { Rest table.now n (walk (graph_of table.now)) result }
-{
-    let k = crate::table::word(table, at);
-    Cursor {
-        i: 0,
-        at: at + 1,
-        left: k,
-        ones: 0,
-    }
-}
-
-// An operand: real if its level number is the next one.
-fn step_operand(table: &[u16], work: &[u32], n: usize, c: Cursor) -> Trit
-    requires { Standing table.now n work.now c × (0 < c.left) }
-    ensures { (left : Walk) → Rest table.now n left c → Stepped table.now n left result }
-{
-    let at = c.at;
-    let v = crate::table::word(table, at);
-    let p = crate::walk::entry(work, n + v - 1) % 65536;
-    if p == c.ones + 1 {
-        return Trit::Real(Cursor {
-            i: c.i,
-            at: at + 1,
-            left: c.left - 1,
-            ones: p,
-        });
-    }
-    Trit::Shadow(
-        p,
-        Cursor {
-            i: c.i,
-            at: at + 1,
-            left: c.left - 1,
-            ones: c.ones,
-        },
-    )
-}
-
-// A row's end, and the next node is taken.
-fn step_row(table: &[u16], work: &[u32], n: usize, c: Cursor) -> Trit
-    requires { Standing table.now n work.now c × (c.left ≡ 0) × (c.i < n) }
-    ensures { (left : Walk) → Rest table.now n left c → Stepped table.now n left result }
-{
-    let i = c.i;
-    let v = crate::walk::entry(work, 2 * n + i);
-    let at = crate::walk::entry(work, v - 1);
-    let k = crate::table::word(table, at);
-    Trit::End(Cursor {
-        i: i + 1,
-        at: at + 1,
-        left: k,
-        ones: c.ones,
-    })
-}
-
-// The next trit.
-pub fn step(table: &[u16], work: &[u32], n: usize, c: Cursor) -> Trit
-    requires { Standing table.now n work.now c }
-    ensures { (left : Walk) → Rest table.now n left c → Stepped table.now n left result }
-{
-    if 0 < c.left {
-        return step_operand(table, work, n, c);
-    }
-    if c.i < n {
-        return step_row(table, work, n, c);
-    }
-    if c.i == n {
-        return Trit::End(Cursor {
-            i: n + 1,
-            at: c.at,
-            left: 0,
-            ones: c.ones,
-        });
-    }
-    Trit::Done
-}
-
-// Trits as a number, and the cursor after them.
+// A table of n nodes, and the work buffer after the walk through it, which reached them all.
 #[derive(Clone, Copy)]
-pub struct Next {
-    pub value: usize,
-    pub cursor: Cursor,
+pub struct Stream<'a> {
+    pub table: &'a [u16],
+    pub work: &'a [u32],
+    pub n: usize,
+    pub ghost walked: { Walked table.now n work.now } by { Prim.hlevel walked_props },
 }
 
-// The next trit as a number, 0 where none is left.
-fn next_trit(table: &[u16], work: &[u32], n: usize, c: Cursor) -> Next
-    requires { Standing table.now n work.now c }
-    ensures { (result.value ≤ 2) × Standing table.now n work.now result.cursor
-        × ((left : Walk) → Rest table.now n left c → Took table.now n 1 left result) }
-{
-    match step(table, work, n, c) {
-        Trit::End(d) => Next {
-            value: 0,
-            cursor: d,
-        },
-        Trit::Real(d) => Next {
-            value: 1,
-            cursor: d,
-        },
-        Trit::Shadow(_, d) => Next {
-            value: 2,
-            cursor: d,
-        },
-        Trit::Done => Next {
-            value: 0,
-            cursor: c,
-        },
+impl Stream<'_> {
+    ghost use Rattle.packing.specs.Stream.{Rest, Standing, Stepped, Took, ahead};
+
+    // The cursor before the first trit; `at` is the place of the count of roots.
+    pub fn first(&self, at: usize) -> Cursor
+        requires { at ≡ start_of (graph_of self.now.table.now) self.now.n }
+        ensures { Rest self.now.table.now self.now.n (walk (graph_of self.now.table.now)) result }
+    {
+        Cursor {
+            i: 0,
+            at: at + 1,
+            left: usize::from(self.table[at]),
+            ones: 0,
+        }
     }
-}
 
-// The next five trits: a tryte.
-pub fn next_tryte(table: &[u16], work: &[u32], n: usize, c: Cursor) -> Next
-    requires { Standing table.now n work.now c }
-    ensures { (result.value ≤ 242) × ((left : Walk) → Rest table.now n left c → Took table.now n 5 left result) }
-{
-    let a = next_trit(table, work, n, c);
-    let ca = a.cursor;
-    let b = next_trit(table, work, n, ca);
-    let cb = b.cursor;
-    let d = next_trit(table, work, n, cb);
-    let cd = d.cursor;
-    let e = next_trit(table, work, n, cd);
-    let ce = e.cursor;
-    let f = next_trit(table, work, n, ce);
-    let cf = f.cursor;
-    Next {
-        value: a.value + 3 * (b.value + 3 * (d.value + 3 * (e.value + 3 * f.value))),
-        cursor: cf,
+    // An operand: real if its level number is the next one.
+    fn operand(&self, c: &mut Cursor) -> Trit
+        requires { Standing self.now.table.now self.now.n c.old × (0 < c.old.left) }
+        ensures told { (left : Walk) → Rest self.now.table.now self.now.n left c.old → Stepped self.now.table.now self.now.n left (Some result) c.new }
+        ensures nearer { ahead self.now.n c.new < ahead self.now.n c.old }
+    {
+        let v = usize::from(self.table[c.at]);
+        let p = self.work[self.n + v - 1] as usize % 65536;
+        c.at += 1;
+        c.left -= 1;
+        if p == c.ones + 1 {
+            c.ones = p;
+            return Trit::Real;
+        }
+        Trit::Shadow(p)
+    }
+
+    // A row's end, and the next node is taken.
+    fn row_end(&self, c: &mut Cursor) -> Trit
+        requires { Standing self.now.table.now self.now.n c.old × (c.old.left ≡ 0) × (c.old.i < self.now.n) }
+        ensures told { (left : Walk) → Rest self.now.table.now self.now.n left c.old → Stepped self.now.table.now self.now.n left (Some result) c.new }
+        ensures nearer { ahead self.now.n c.new < ahead self.now.n c.old }
+    {
+        let v = self.work[2 * self.n + c.i] as usize;
+        let at = self.work[v - 1] as usize;
+        c.i += 1;
+        c.at = at + 1;
+        c.left = usize::from(self.table[at]);
+        Trit::End
+    }
+
+    // The next trit, if one is left.
+    pub fn step(&self, c: &mut Cursor) -> Option<Trit>
+        requires { Standing self.now.table.now self.now.n c.old }
+        ensures told { (left : Walk) → Rest self.now.table.now self.now.n left c.old → Stepped self.now.table.now self.now.n left result c.new }
+        ensures nearer { IfSome result (λ t. ahead self.now.n c.new < ahead self.now.n c.old) }
+    {
+        if 0 < c.left {
+            return Some(self.operand(c));
+        }
+        if c.i < self.n {
+            return Some(self.row_end(c));
+        }
+        if c.i == self.n {
+            c.i += 1;
+            return Some(Trit::End);
+        }
+        None
+    }
+
+    // The next trit as a number, 0 where none is left.
+    fn next_trit(&self, c: &mut Cursor) -> usize
+        requires { Standing self.now.table.now self.now.n c.old }
+        ensures { (result ≤ 2) × ((left : Walk) → Rest self.now.table.now self.now.n left c.old → Took self.now.table.now self.now.n 1 left result c.new) }
+    {
+        match self.step(c) {
+            Some(Trit::End) => 0,
+            Some(Trit::Real) => 1,
+            Some(Trit::Shadow(_)) => 2,
+            None => 0,
+        }
+    }
+
+    // The next five trits: a tryte.
+    pub fn next_tryte(&self, c: &mut Cursor) -> usize
+        requires { Standing self.now.table.now self.now.n c.old }
+        ensures { (result ≤ 242) × ((left : Walk) → Rest self.now.table.now self.now.n left c.old → Took self.now.table.now self.now.n 5 left result c.new) }
+    {
+        let mut value = 0;
+        for weight in [1, 3, 9, 27, 81] {
+            value += weight * self.next_trit(c);
+        }
+        value
     }
 }
