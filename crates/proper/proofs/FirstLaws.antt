@@ -5,14 +5,15 @@ use native.Mathlib.Decide.{dec_le}
 use native.Mathlib.Omega.{arith}
 use native.Mathlib.Numerals.{add-one}
 use mathlib.Core.Path.{◌≡◌, refl, sym, ap, ◌∙◌}
-use mathlib.Core.Bool.{Bool, true, false, ◌&&◌}
+use mathlib.Core.Bool.{Bool, true, false}
 use mathlib.Core.List.{List, [], ◌∷◌}
+use mir.Val.{bool_byte}
 use lib.Dec.{eqb, leb, lit≤}
-use lib.ListN.{length, get_or, drop, drop_of_length-le}
+use lib.ListN.{length, get_or, drop}
 use lib.Seq.{drop-cons, get_or-take}
 use borrow.Author.Tests.{eqb-true, eqb-false, eq-eqb, ne_eqb, le-leb, leb-true}
 use borrow.Author.Count.{below_none, below_more}
-use Rattle.format.specs.Lists.{bit, every, count_in, spread, up, Below}
+use Rattle.format.specs.Lists.{bit, count_in, spread, up, Below}
 use Rattle.format.specs.Trits.{rank, untrytes, tryte_count}
 use Rattle.format.specs.Image.{until_zero, node_count, root_count, edge_count}
 use Rattle.format.specs.Proper.{bytes_low, padded, roots_first, balanced, grown, limits, contents_fault1, OwnRules}
@@ -26,26 +27,20 @@ use Rattle.trits.proofs.Trytes.{rank_more}
 use Rattle.samples.specs.Lent.{TritsIn}
 use Rattle.proper.specs.FirstSays.{Ballot}
 
--- ---- a test over what is left of a list
-
-module _ (f : ℕ → Bool) (xs : List ℕ) (p : ℕ) where
-  step : p < length xs → every f (drop p xs) ≡ (f (get_or xs p 0) && every f (drop (p + 1) xs))
-  step h = rw (add-one, drop-cons xs p 0)
-
-  pub every_more : p < length xs → f (get_or xs p 0) ≡ true → every f (drop p xs) ≡ every f (drop (p + 1) xs)
-  every_more h e = step h ∙ ap (λ (b : Bool). b && every f (drop (p + 1) xs)) e
-
-  pub every_stop : p < length xs → f (get_or xs p 0) ≡ false → every f (drop p xs) ≡ false
-  every_stop h e = step h ∙ ap (λ (b : Bool). b && every f (drop (p + 1) xs)) e
-
-  pub every_end : length xs ≤ p → every f (drop p xs) ≡ true
-  every_end h = ap (every f) (drop_of_length-le xs h)
-
 -- ---- trits by place
 
 pub trit_of_lem : (l : ℕ) (bs : List ℕ) (p x : ℕ) → p < l → x ≡ get_or (spread 3 5 bs) p 0 → get_or (untrytes l bs) p 0 ≡ x
 unfolding untrytes
 trit_of_lem l bs p x h e = get_or-take l (spread 3 5 bs) p 0 h ∙ sym e
+
+-- a test as a number
+pub bit_is : (b : Bool) {n : ℕ} → n ≡ bool_byte b → n ≡ bit b
+bit_is true e = e
+bit_is false e = e
+
+pub bit_few : (b : Bool) {n : ℕ} → n ≡ bool_byte b → n ≤ 1
+bit_few true e = omega arith
+bit_few false e = omega arith
 
 -- one trit more
 pub rank_turn : (t : ℕ) (xs : List ℕ) (p x n d : ℕ) → p < length xs → get_or xs p 0 ≡ x → n ≡ rank t xs p → d ≡ bit (eqb x t) → n + d ≡ rank t xs (p + 1)
@@ -202,6 +197,16 @@ pub record Ruled (l : ℕ) (bs : List ℕ) (nodes roots : ℕ) : Type 0 where
   pub own : OwnRules l bs
   pub nodes_are : nodes ≡ node_count (untrytes l bs)
   pub roots_are : roots ≡ root_count (untrytes l bs)
+
+pub ruled : {l : ℕ} {bs : List ℕ} {n c : ℕ} → length bs ≡ up l 5 → true ≡ bytes_low bs → true ≡ padded l bs
+    → (roots_first (untrytes l bs) ≡ true) × (c ≡ root_count (untrytes l bs))
+    → (balanced (untrytes l bs) ≡ true) × (grown (untrytes l bs) ≡ true) × (n ≡ node_count (untrytes l bs)) → Ruled l bs n c
+ruled {l} {bs} long low pad r n = record {
+  long = length_untrytes l bs long;
+  own = record { is_low = sym low; is_padded = sym pad; roots_are_first = r.0; is_balanced = n.0; is_grown = n.1 };
+  nodes_are = n.2;
+  roots_are = r.1;
+}
 
 module _ {l : ℕ} {bs : List ℕ} {n c : ℕ} (s : Ruled l bs n c) where
   shadows_are : 2 * n + 1 + count_in 2 (untrytes l bs) ≡ l

@@ -1,24 +1,21 @@
 -- The counts and sizes that code has for sections 3 to 9 are those of the definitions. Assumes nothing.
-use Prim.Native.Nat.{ℕ, ◌+◌, ◌*◌, ◌/◌, ◌≤◌, ◌<◌}
+use Prim.Native.Nat.{ℕ, ◌+◌, ◌*◌, ◌/◌, ◌≤◌}
 use native.Mathlib.Omega.{arith}
 use mathlib.Core.Path.{◌≡◌, refl, sym, ap, ◌∙◌}
 use mathlib.Core.List.{List, ◌∷◌}
-use lib.Dec.{lit<}
 use lib.ListN.{length}
 use Rattle.format.specs.Lists.{run, count_in, up}
 use Rattle.format.specs.Image.{node_count, grouped, marked, marked_nodes, mark_words, starts, mark_samples, last_multiple, given, section3, section4, section5, section7, section8, section9, Section}
-use Rattle.format.specs.Proper.{rest_of, given_fault, check_given, ProperTrits}
-use Rattle.format.specs.Answers.{refusal_number}
-use Rattle.format.specs.declared.Refusal.{Refusal}
+use Rattle.format.specs.Proper.{check_given, ProperTrits}
 use Rattle.format.proofs.Laws.{length_keep, length_run}
 use Rattle.format.proofs.Sizes.{length_bytes, length_grouped, length_mark_words, length_starts, length_pairs, length_mark_samples}
 use Rattle.format.proofs.CheckLaws.{shadow_nodes}
 use Rattle.samples.proofs.SampleLaws.{far_section}
 use Rattle.trits.specs.declared.Layout.{Layout}
 use Rattle.trits.specs.Layout.{layout, laying}
-use Rattle.proper.specs.Examined.{Sized, Through, Counted, given_from}
+use Rattle.proper.specs.Examined.{Sized, Counted, given_from}
 use Rattle.samples.specs.Samples.{Sampling, far, middle, near, sample_section}
-use Rattle.proper.proofs.OpenLaws.{Front, given_room, first_refused, first_passed}
+use Rattle.proper.proofs.OpenLaws.{Front}
 
 module _ (trits H : List ℕ) where
   pub front3 : {n : ℕ} → node_count trits ≡ n → Front (section3 trits H) n (8 * up n 64)
@@ -49,11 +46,6 @@ marked_few trits H = omega (arith, length_keep (marked H) (run 1 (node_count tri
 
 -- ---- sections 6, 7 and 8
 
-pub sampling_small : {i step fan width : ℕ} → Sampling i step fan width → {l : ℕ} → l ≤ 125536 → (0 < step) × (l / step ≤ 125536) × (width * (2 * (l / step + 1)) ≤ 1004296)
-sampling_small far h = (lit< tt, omega arith, omega arith)
-sampling_small middle h = (lit< tt, omega arith, omega arith)
-sampling_small near h = (lit< tt, omega arith, omega arith)
-
 module _ (trits : List ℕ) where
   pub front_samples : (step fan width : ℕ) {l : ℕ} → length trits ≡ l → Front (sample_section step fan width trits) (l / step + 1) (width * (2 * (l / step + 1)))
   unfolding sample_section
@@ -72,36 +64,21 @@ given_samples trits H few far = ap (λ (s : Section). s ∷ given_from 4 trits H
 given_samples trits H few middle = refl
 given_samples trits H few near = refl
 
+-- their faults, and those behind them
+pub check_samples : (trits H : List ℕ) → length trits ≤ 125536 → {i step fan width : ℕ} → Sampling i step fan width → (b : List ℕ)
+    → check_given (sample_section step fan width trits ∷ given_from (3 + (i + 1)) trits H) b ≡ check_given (given_from (3 + i) trits H) b
+check_samples trits H few L b = ap (λ (ss : List Section). check_given ss b) (sym (given_samples trits H few L))
+
 -- the layout by the sizes that code has
 pub laying_is : {trits : List ℕ} (H : List ℕ) {l n c k h : ℕ} → Sized trits l n c k → length H ≡ count_in 2 trits → h ≡ length (marked_nodes trits H) → layout l n c k h ≡ laying trits H
 laying_is H S e f = λ i. layout (sym S.trits_are i) (sym S.nodes_are i) (sym S.roots_are i) ((sym S.twos_are ∙ sym e) i) (f i)
 
 -- the sizes of a layout
-pub counted_trits : {trits H bs marks : List ℕ} {lay : Layout} → Counted trits H bs marks lay → length trits ≡ lay.trits
-counted_trits C = sym (ap (λ (y : Layout). y.trits) C.laid)
-
-pub counted_nodes : {trits H bs marks : List ℕ} {lay : Layout} → Counted trits H bs marks lay → lay.nodes ≡ node_count trits
+pub counted_nodes : {trits H marks : List ℕ} {lay : Layout} → Counted trits H marks lay → lay.nodes ≡ node_count trits
 counted_nodes C = ap (λ (y : Layout). y.nodes) C.laid
 
-pub counted_shadows : {trits H bs marks : List ℕ} {lay : Layout} → Counted trits H bs marks lay → length H ≡ lay.shadows
+pub counted_shadows : {trits H marks : List ℕ} {lay : Layout} → Counted trits H marks lay → length H ≡ lay.shadows
 counted_shadows C = sym (ap (λ (y : Layout). y.shadows) C.laid)
 
-pub counted_marked : {trits H bs marks : List ℕ} {lay : Layout} → Counted trits H bs marks lay → length (marked_nodes trits H) ≡ lay.marked
+pub counted_marked : {trits H marks : List ℕ} {lay : Layout} → Counted trits H marks lay → length (marked_nodes trits H) ≡ lay.marked
 counted_marked C = sym (ap (λ (y : Layout). y.marked) C.laid)
-
-pub counted : {trits H bs hs marks : List ℕ} {lay : Layout} → Through trits H bs hs marks lay → Counted trits H bs marks lay
-counted T = record { trits_in = T.known.trits_in; marked = T.marked; laid = T.laid }
-
-module _ {trits H bs marks : List ℕ} {lay : Layout} (C : Counted trits H bs marks lay) {i step fan width : ℕ} (L : Sampling i step fan width) (b : List ℕ) where
-  pub samples_refused : (f : Refusal) → refusal_number f ≡ given_fault (sample_section step fan width trits) b → refusal_number f ≡ check_given (given_from (3 + i) trits H) b
-  samples_refused f e = rw (given_samples trits H C.trits_in.few L) (first_refused _ _ b f e)
-
-  -- it has passed
-  module _ (z : 0 ≡ given_fault (sample_section step fan width trits) b) where
-    pub samples_room : 4 + width * (2 * (lay.trits / step + 1)) ≤ length b
-    samples_room = given_room (front_samples trits step fan width (counted_trits C)) b z
-
-    pub samples_passed : check_given (given_from (3 + i) trits H) b ≡ check_given (given_from (3 + (i + 1)) trits H) (rest_of (width * (2 * (lay.trits / step + 1))) b)
-    samples_passed =
-        rw (given_samples trits H C.trits_in.few L)
-        (sym (first_passed _ _ b (front_samples trits step fan width (counted_trits C)).fills z _ refl))

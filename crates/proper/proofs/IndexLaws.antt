@@ -19,26 +19,8 @@ use Rattle.format.proofs.Laws.{both_true, true_both, last_false, same_eq}
 use Rattle.format.proofs.Sizes.{length_bytes, length_group, length_starts, grouped_suc}
 use Rattle.format.proofs.Steps.{bytes_same}
 use Rattle.format.proofs.ImageReads.{Each, fits4, fits5}
-use Rattle.samples.specs.Lent.{TritsIn}
-use Rattle.proper.specs.Known.{Known}
 use Rattle.proper.specs.Places.{key, Rises, number_is, Long, both_right}
-use Rattle.proper.proofs.SecondLaws.{trits_are}
-use Rattle.proper.proofs.StartLaws.{same_marked}
-use Rattle.proper.proofs.KeyLaws.{many_are, Climbed, entries, number_in_lem, refuted, many, climbed_none, climbed_next, climbed_wrong, climbed_all}
-
--- ---- one length
-
--- all trits and shadows that have n nodes and these sections 1 and 2 have sections 4 and 5 of one length
-pub same_long : {trits H trits' H' bs hs firsts part : List ℕ} → Known trits H bs hs → Known trits' H' bs hs → node_count trits ≡ node_count trits'
-    → Long trits H firsts part → Long trits' H' firsts part
-same_long K K' e L = record {
-  long4 = L.long4 ∙ ap (λ (k : ℕ). 4 * (k + 1)) (same_marked K.shadowed K'.shadowed e);
-  long5 = omega (arith, L.long5, many_are K, many_are K');
-}
-
--- and all trits of section 1 have one number of nodes
-pub same_nodes : {trits trits' bs : List ℕ} {l : ℕ} → TritsIn trits bs → TritsIn trits' bs → length trits ≡ l → length trits' ≡ l → node_count trits ≡ node_count trits'
-same_nodes T T' e e' = ap node_count (sym (trits_are T e) ∙ trits_are T' e')
+use Rattle.proper.proofs.KeyLaws.{Climbed, entries, number_in_lem, refuted, many, climbed_none, climbed_next, climbed_wrong, climbed_all}
 
 -- ---- the first indices
 

@@ -2,6 +2,7 @@
 pub mod OpenLaws
 pub mod GivenLaws
 pub mod FirstLaws
+pub mod HeldLaws
 pub mod SecondLaws
 pub mod ShadowLaws
 pub mod MapLaws

@@ -1,9 +1,9 @@
 -- Sections 6, 7 and 8 pair by pair: the counts at a sample are its pair, so a section is right exactly if every pair holds its counts. Assumes nothing.
 use Prim.Native.Nat.{ℕ, ◌+◌, ◌*◌, ◌/◌, ◌^◌, ◌≤◌, ◌<◌}
-use native.Mathlib.Nat.{add-zero, mul-suc, mul_comm, mul-le-mul_left, zero-mod}
+use native.Mathlib.Nat.{add-zero, mul-le-mul_left, zero-mod}
 use native.Mathlib.Decide.{ℕ_discrete}
 use native.Mathlib.Omega.{arith}
-use mathlib.Core.Path.{◌≡◌, refl, sym, ap, ◌∙◌, subst}
+use mathlib.Core.Path.{◌≡◌, refl, sym, ap, ◌∙◌}
 use mathlib.Core.Bool.{Bool, true, false, not, ◌&&◌}
 use mathlib.Core.List.{List}
 use lib.Dec.{eqb, lit<}
@@ -21,7 +21,6 @@ use Rattle.samples.specs.Lent.{TritsIn}
 use Rattle.samples.specs.Samples.{Width, Sampling, far, middle, near, Paced, Counting, Step}
 use Rattle.samples.proofs.SampleLaws.{none, counting_anew, pair_is, paced, step_follows, far_pairs}
 use Rattle.proper.specs.Samples.{PairsIn, pair_holds}
-use Rattle.proper.proofs.SecondLaws.{trits_are}
 
 -- ---- the three sections
 
@@ -34,11 +33,6 @@ pub planned : {i step fan width : ℕ} → Sampling i step fan width → (trits 
     → length part ≡ width * (2 * (length trits / step + 1)) → PairsIn trits step fan width part
 planned s trits part few e = record { paced = paced s; full = e; fits = numbers_fit s trits few }
 
--- what is planned for trits is planned for all that section 1 can hold: there is only one
-pub same_planned : {trits trits' bs part : List ℕ} {l step fan width : ℕ} → TritsIn trits bs → length trits ≡ l → PairsIn trits step fan width part
-    → TritsIn trits' bs → length trits' ≡ l → PairsIn trits' step fan width part
-same_planned {part = part} {step = step} {fan} {width} T e P T' e' = subst (λ (ts : List ℕ). PairsIn ts step fan width part) (sym (trits_are T e) ∙ trits_are T' e') P
-
 -- ---- numbers in a section
 
 width_some : {w : ℕ} → Width w → 0 < w
@@ -49,12 +43,6 @@ width_some {w} h = elim (ℕ_discrete w 4) [
     | no m ↦ omega (arith, h n m)
   ]
 ]
-
-pub number_room : (w i n : ℕ) {size : ℕ} → i < n → w * n ≤ size → w * i + w ≤ size
-number_room w i n h l = omega (arith, mul-le-mul_left w h, mul-suc w i)
-
-pub small_pair : {w : ℕ} (q : ℕ) {size : ℕ} → Width w → w * (2 * (q + 1)) ≤ size → 2 * (q + 1) ≤ size
-small_pair {w} q h l = omega (arith, mul-le-mul_left (2 * (q + 1)) (width_some h), mul_comm w (2 * (q + 1)), mul-suc (2 * (q + 1)) 0)
 
 -- ---- two tests
 
@@ -124,7 +112,7 @@ module _ {trits : List ℕ} {step fan width : ℕ} {part : List ℕ} (P : PairsI
       passed_next e f C = record { counting = rw own.trytewise at C; right = right_pair (sym e ∙ not-false _ f) }
 
       -- at the last sample its pair decides
-      pub passed_all : {t : Bool} → t ≡ pair_holds width q part c.zeros c.ones → q ≡ L / step → Below 256 part → t ≡ same part (bytes width numbers)
-      passed_all e last low =
+      pub passed_all : {t : Bool} → q ≡ L / step → t ≡ pair_holds width (L / step) part c.zeros c.ones → Below 256 part → t ≡ same part (bytes width numbers)
+      passed_all last e low =
           let len : length numbers ≡ 2 * (q + 1) = rw (length_pairs, n, last) in
-          e ∙ decide _ _ (λ h. bytes_same width part numbers (width_some own.widths) low (rw length_pairs P.full) (λ i l. right_pair h i (omega arith))) wrong_pair
+          rw (← last) at e ∙ decide _ _ (λ h. bytes_same width part numbers (width_some own.widths) low (rw length_pairs P.full) (λ i l. right_pair h i (omega arith))) wrong_pair

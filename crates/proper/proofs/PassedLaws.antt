@@ -1,4 +1,5 @@
 -- Sections 1 and 2: what their faults make of the whole, and what is known once they have passed. Assumes nothing.
+use Rattle.std.specs.Prelude.{Result, Ok, Err}
 use Prim.Native.Nat.{ℕ, ◌*◌, ◌≤◌, ◌<◌}
 use native.Mathlib.Omega.{arith}
 use mathlib.Core.Path.{◌≡◌, sym, ap, ◌∙◌}
@@ -21,17 +22,15 @@ use Rattle.format.proofs.OneToOne.{refusal_some}
 use Rattle.samples.specs.Lent.{TritsIn}
 use Rattle.trits.specs.declared.Layout.{Layout}
 use Rattle.trits.specs.Layout.{layout_of, laying}
-use Rattle.proper.specs.declared.check.Examined.{Examined}
-use Rattle.proper.specs.declared.check.Examined.TheVariants.{Proper, Refused}
-use Rattle.proper.specs.declared.first.First.TheVariants.{Sizes}
+use Rattle.proper.specs.declared.first.Sizes.{Sizes}
 use Rattle.proper.specs.FirstSays.{FirstSays}
 use Rattle.proper.specs.Known.{Known}
-use Rattle.proper.specs.Examined.{Examines, opens, shadows2, check2, FirstPassed}
+use Rattle.proper.specs.Examined.{Examines, opens, Opened, shadows2, check2, FirstPassed}
 use Rattle.proper.proofs.OpenLaws.{opens_then}
 
-pub examines_as : {x y : ℕ} {u v : Layout} (r : Examined) → x ≡ y → u ≡ v → Examines x u r → Examines y v r
-examines_as (Proper lay) e f h = (sym e ∙ h.0, h.1 ∙ f)
-examines_as (Refused c) e f h = sym e ∙ h
+pub examines_as : {x y : ℕ} {u v : Layout} (r : Result Layout Refusal) → x ≡ y → u ≡ v → Examines x u r → Examines y v r
+examines_as (Ok lay) e f h = (sym e ∙ h.0, h.1 ∙ f)
+examines_as (Err c) e f h = sym e ∙ h
 
 -- ---- section 1
 
@@ -51,7 +50,7 @@ module _ (b : List ℕ) where
   unfolding layout_of shadows2 shadows_of
   laid_out = λ i. layout_of b
 
-pub first_passed_is : {bs : List ℕ} {l n c k : ℕ} → 1 ≤ l → l ≤ 125536 → length bs ≡ up l 5 → FirstSays l bs (Sizes n c k) → FirstPassed bs l n c k
+pub first_passed_is : {bs : List ℕ} {l : ℕ} {z : Sizes} → 1 ≤ l → l ≤ 125536 → length bs ≡ up l 5 → FirstSays l bs (Ok z) → FirstPassed bs l z.nodes z.roots z.shadows
 first_passed_is {bs} {l} some few full z =
     record {
       some = some;
@@ -107,14 +106,8 @@ module _ {bs : List ℕ} {l n c k : ℕ} (F : FirstPassed bs l n c k) where
 -- ---- section 2
 
 module _ (trits b : List ℕ) {k : ℕ} (e : count_in 2 trits ≡ k) where
-  abbrev rest : ℕ
-  rest = check_given (given trits (from_bytes 2 (contents_of (2 * k) b))) (rest_of (2 * k) b)
-
-  pub shadows_2 : shadows2 trits b ≡ from_bytes 2 (contents_of (2 * k) b)
-  unfolding shadows2
-  shadows_2 = ap (λ (x : ℕ). from_bytes 2 (contents_of (2 * x) b)) e
-
-  second_is : check2 trits b ≡ (opens 24 k (2 * k) b then fault 24 (shadows_seen trits (from_bytes 2 (contents_of (2 * k) b))) then rest)
+  second_is : check2 trits b ≡ (opens 24 k (2 * k) b then fault 24 (shadows_seen trits (from_bytes 2 (contents_of (2 * k) b)))
+      then check_given (given trits (from_bytes 2 (contents_of (2 * k) b))) (rest_of (2 * k) b))
   unfolding check2 fault2 shadows2
   second_is =
       (λ i. opens_then 24 (count_in 2 trits) (2 * count_in 2 trits) b (fault 24 (shadows_seen trits (from_bytes 2 (contents_of (2 * count_in 2 trits) b)))) i
@@ -126,9 +119,18 @@ module _ (trits b : List ℕ) {k : ℕ} (e : count_in 2 trits ≡ k) where
   pub second_refused : (f : Refusal) → refusal_number f ≡ opens 24 k (2 * k) b → check2 trits b ≡ refusal_number f
   second_refused f h = second_is ∙ then_no (opens 24 k (2 * k) b) _ (omega (arith, h, refusal_some f)) ∙ sym h
 
-  module _ (h : 0 ≡ opens 24 k (2 * k) b) where
-    pub second_wrong : shadows_seen trits (from_bytes 2 (contents_of (2 * k) b)) ≡ false → check2 trits b ≡ 24
-    second_wrong w = second_is ∙ then_yes (opens 24 k (2 * k) b) _ (sym h) ∙ ap (λ (t : Bool). fault 24 t then rest) w
+  -- its front is open
+  module _ {hs rest : List ℕ} (O : Opened 24 k (2 * k) b hs rest) where
+    pub second_shadows : shadows2 trits b ≡ from_bytes 2 hs
+    unfolding shadows2
+    second_shadows = (λ i. from_bytes 2 (contents_of (2 * e i) b)) ∙ ap (from_bytes 2) (sym O.cut.part_is)
 
-    pub second_passed : shadows_seen trits (from_bytes 2 (contents_of (2 * k) b)) ≡ true → check2 trits b ≡ rest
-    second_passed w = second_is ∙ then_yes (opens 24 k (2 * k) b) _ (sym h) ∙ ap (λ (t : Bool). fault 24 t then rest) w
+    second_open : check2 trits b ≡ (fault 24 (shadows_seen trits (from_bytes 2 hs)) then check_given (given trits (from_bytes 2 hs)) rest)
+    second_open = rw (O.cut.part_is, O.cut.rest_is) (second_is ∙ then_yes (opens 24 k (2 * k) b) _ (sym O.front))
+
+    module _ {t : Bool} (et : t ≡ shadows_seen trits (from_bytes 2 hs)) where
+      pub second_wrong : t ≡ false → check2 trits b ≡ 24
+      second_wrong w = second_open ∙ ap (λ (t : Bool). fault 24 t then check_given (given trits (from_bytes 2 hs)) rest) (sym et ∙ w)
+
+      pub second_passed : t ≡ true → check2 trits b ≡ check_given (given trits (from_bytes 2 hs)) rest
+      second_passed w = second_open ∙ ap (λ (t : Bool). fault 24 t then check_given (given trits (from_bytes 2 hs)) rest) (sym et ∙ w)

@@ -5,40 +5,20 @@ use native.Mathlib.Numerals.{add-one}
 use mathlib.Core.Path.{◌≡◌, refl, sym, ap, ap₂, ◌∙◌}
 use mathlib.Core.Bool.{Bool, true, false, ◌&&◌, cond}
 use mathlib.Core.List.{List}
-use lib.Dec.{eqb, lit<}
+use lib.Dec.{eqb}
 use lib.ListN.{length, get_or, drop, drop_of_length-le}
 use lib.Seq.{drop-cons}
 use borrow.Author.Tests.{eqb-true}
 use Rattle.format.specs.Lists.{bit, every, cons_if, count_in}
-use Rattle.format.specs.Trits.{rank, untrytes}
+use Rattle.format.specs.Trits.{rank}
 use Rattle.format.specs.Image.{from_bytes, shadow_at, read}
 use Rattle.format.specs.Table.{is_node}
 use Rattle.format.specs.Proper.{shadows_seen}
 use Rattle.format.proofs.Laws.{rank_zero, rank_le, rank_here, rank_count}
-use Rattle.format.proofs.Digits.{gather_at, le_up}
-use Rattle.format.proofs.Sizes.{length_trytes}
+use Rattle.format.proofs.Digits.{gather_at}
 use Rattle.format.proofs.Select.{places_from, places_from_lem}
-use Rattle.format.proofs.CheckLaws.{untrytes_trytes}
-use Rattle.samples.specs.Lent.{TritsIn}
 use Rattle.proper.specs.SecondSays.{entry_right}
 use Rattle.proper.proofs.FirstLaws.{rank_turn}
-
--- the bytes say which trits they hold
-pub trits_are : {trits bs : List ℕ} {l : ℕ} → TritsIn trits bs → length trits ≡ l → untrytes l bs ≡ trits
-trits_are {trits} t e = rw (sym e, t.trytes_are) (untrytes_trytes trits t.threes)
-
--- what the walk is lent: l trits, and an entry for each 2
-pub record Lent (bs hs : List ℕ) (l : ℕ) : Type 0 where
-  pub long : length (untrytes l bs) ≡ l
-  pub room : l ≤ 5 * length bs
-  pub paired : length hs ≡ 2 * count_in 2 (untrytes l bs)
-
-pub lent : {trits bs hs : List ℕ} {l : ℕ} → TritsIn trits bs → length trits ≡ l → length hs ≡ 2 * count_in 2 trits → Lent bs hs l
-lent {trits} t e h = record {
-  long = ap length (trits_are t e) ∙ e;
-  room = omega (arith, ap length t.trytes_are, length_trytes trits, le_up (length trits) 5 (lit< tt));
-  paired = rw (trits_are t e) h;
-}
 
 -- the 2 at place q is right; and so is each from place p on
 abbrev right : List ℕ → List ℕ → ℕ → Bool

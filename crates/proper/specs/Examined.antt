@@ -1,26 +1,46 @@
 -- What the checker's steps know and answer, section by section. Assumes nothing.
-use Rattle.std.specs.Prelude.{ℕ, ◌≤◌, ◌≡◌, List, eqb, length, drop}
+use Rattle.std.specs.Prelude.{ℕ, ◌+◌, ◌≤◌, ◌≡◌, List, ◌∷◌, eqb, length, drop, Result, Ok, Err}
 use Rattle.format.specs.Faults.{fault, ◌then◌}
 use Rattle.format.specs.Lists.{count_in, up}
 use Rattle.format.specs.Trits.{untrytes}
 use Rattle.format.specs.Image.{from_bytes, node_count, root_count, Section, given}
-use Rattle.format.specs.Proper.{count_of, contents_of, rest_of, section_fault, size2, fault2, contents_fault1, check_given}
+use Rattle.format.specs.Proper.{count_of, contents_of, rest_of, section_fault, size2, fault2, contents_fault1, check_given, check_image}
 use Rattle.format.specs.Answers.{refusal_number}
-use Rattle.samples.specs.Lent.{TritsIn}
+use Rattle.format.specs.declared.Refusal.{Refusal}
 use Rattle.trits.specs.declared.Layout.{Layout}
-use Rattle.trits.specs.Layout.{laying}
-use Rattle.proper.specs.declared.check.Examined.{Examined}
-use Rattle.proper.specs.declared.check.Examined.TheVariants.{Proper, Refused}
-use Rattle.proper.specs.Known.{Known, Marked}
+use Rattle.trits.specs.declared.image.Image.{Image}
+use Rattle.trits.specs.Layout.{layout_of, laying}
+use Rattle.proper.specs.Known.{Marked}
+
+-- the image in b if it is proper, or the number of its first fault
+abbrev pub Examined : List ℕ → Result Image Refusal → Type 0
+Examined b (Ok i) = (check_image b ≡ 0) × (i.bytes.now ≡ b) × (i.lay ≡ layout_of b)
+Examined b (Err f) = check_image b ≡ refusal_number f
 
 -- x is the checker's number, and lay the layout of a proper image
-abbrev pub Examines : ℕ → Layout → Examined → Type 0
-Examines x lay (Proper l) = (x ≡ 0) × (l ≡ lay)
-Examines x lay (Refused f) = x ≡ refusal_number f
+abbrev pub Examines : ℕ → Layout → Result Layout Refusal → Type 0
+Examines x lay (Ok l) = (x ≡ 0) × (l ≡ lay)
+Examines x lay (Err f) = x ≡ refusal_number f
 
 -- the faults of a section before its contents are looked at: count missing, count wrong, contents missing
 unfoldable pub opens : ℕ → ℕ → ℕ → List ℕ → ℕ
 opens code entries size b = section_fault (fault code (eqb (count_of b) entries)) size 0 b
+
+-- b has so many bytes of contents behind a count: these, and what follows them
+pub record Cut (size : ℕ) (b part rest : List ℕ) : Type 0 where
+  pub room : 4 + size ≤ length b
+  pub part_is : part ≡ contents_of size b
+  pub part_long : length part ≡ size
+  pub rest_is : rest ≡ rest_of size b
+
+-- b begins with a section of so many entries and bytes: its contents, and what follows them
+pub record Opened (code entries size : ℕ) (b part rest : List ℕ) : Type 0 where
+  pub front : 0 ≡ opens code entries size b
+  pub cut : Cut size b part rest
+
+-- b begins with section s, and rest follows it
+abbrev pub SectionPasses : Section → List ℕ → List ℕ → Type 0
+SectionPasses s b rest = (ss : List Section) → check_given ss rest ≡ check_given (s ∷ ss) b
 
 -- ---- sections 2 to 9, once section 1 has passed
 
@@ -46,15 +66,8 @@ pub record FirstPassed (bs : List ℕ) (l n c k : ℕ) : Type 0 where
   pub passed : contents_fault1 l bs ≡ 0
   pub sized : Sized (untrytes l bs) l n c k
 
--- sections 1, 2 and 3 have passed: their contents, and the layout of the image
-pub record Through (trits H bs hs marks : List ℕ) (lay : Layout) : Type 0 where
-  pub known : Known trits H bs hs
-  pub marked : Marked trits H marks
-  pub laid : lay ≡ laying trits H
-
--- what the checker knows when it comes to sections 6 to 9: section 1's contents, section 3's, and the layout
-pub record Counted (trits H bs marks : List ℕ) (lay : Layout) : Type 0 where
-  pub trits_in : TritsIn trits bs
+-- section 3 has passed: its contents, and the layout of the image
+pub record Counted (trits H marks : List ℕ) (lay : Layout) : Type 0 where
   pub marked : Marked trits H marks
   pub laid : lay ≡ laying trits H
 

@@ -1,31 +1,29 @@
 -- What the functions on section 1 count and answer. Assumes nothing.
-use Rattle.std.specs.Prelude.{ℕ, ◌≤◌, ◌<◌, ◌≡◌, true, List, length}
+use Rattle.std.specs.Prelude.{ℕ, ◌≤◌, ◌<◌, ◌≡◌, true, List, length, Result, Ok, Err, Option, Some, None}
 use Rattle.format.specs.Lists.{count_in}
 use Rattle.format.specs.Trits.{rank, untrytes}
 use Rattle.format.specs.Image.{node_count, root_count}
 use Rattle.format.specs.Proper.{roots_first, balanced, grown, contents_fault1}
 use Rattle.format.specs.Answers.{refusal_number}
-use Rattle.proper.specs.declared.first.First.{First}
-use Rattle.proper.specs.declared.first.First.TheVariants.{Wrong, Sizes}
+use Rattle.format.specs.declared.Refusal.{Refusal}
+use Rattle.proper.specs.declared.first.Sizes.{Sizes}
 use Rattle.proper.specs.declared.first.Count.{Count}
-use Rattle.proper.specs.declared.first.Given.{Given}
-use Rattle.proper.specs.declared.first.Given.TheVariants.{Number, Broken}
 
 -- section 1's contents give this refusal, or none and these sizes: n, c, k
-abbrev pub FirstSays : ℕ → List ℕ → First → Type 0
-FirstSays l bs (Wrong f) = contents_fault1 l bs ≡ refusal_number f
-FirstSays l bs (Sizes n c k) =
-    (contents_fault1 l bs ≡ 0) × (n ≡ node_count (untrytes l bs)) × (c ≡ root_count (untrytes l bs)) × (k ≡ count_in 2 (untrytes l bs))
+abbrev pub FirstSays : ℕ → List ℕ → Result Sizes Refusal → Type 0
+FirstSays l bs (Err f) = contents_fault1 l bs ≡ refusal_number f
+FirstSays l bs (Ok z) =
+    (contents_fault1 l bs ≡ 0) × (z.nodes ≡ node_count (untrytes l bs)) × (z.roots ≡ root_count (untrytes l bs)) × (z.shadows ≡ count_in 2 (untrytes l bs))
 
 -- the number of roots, or a rule is broken
-abbrev pub RootsSay : List ℕ → Given → Type 0
-RootsSay trits (Number c) = (roots_first trits ≡ true) × (c ≡ root_count trits)
-RootsSay trits Broken = roots_first trits ≡ true → balanced trits ≡ true → ⊥
+abbrev pub RootsSay : List ℕ → Option ℕ → Type 0
+RootsSay trits (Some c) = (roots_first trits ≡ true) × (c ≡ root_count trits)
+RootsSay trits None = roots_first trits ≡ true → balanced trits ≡ true → ⊥
 
 -- the number of nodes, or a rule is broken
-abbrev pub NodesSay : List ℕ → Given → Type 0
-NodesSay trits (Number n) = (balanced trits ≡ true) × (grown trits ≡ true) × (n ≡ node_count trits)
-NodesSay trits Broken = balanced trits ≡ true → grown trits ≡ true → ⊥
+abbrev pub NodesSay : List ℕ → Option ℕ → Type 0
+NodesSay trits (Some n) = (balanced trits ≡ true) × (grown trits ≡ true) × (n ≡ node_count trits)
+NodesSay trits None = balanced trits ≡ true → grown trits ≡ true → ⊥
 
 -- so many zeros and ones stand before place p, and before every earlier place the zeros are no more than the ones
 pub record Ballot (trits : List ℕ) (p zeros ones : ℕ) : Type 0 where

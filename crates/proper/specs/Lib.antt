@@ -1,5 +1,6 @@
 -- What the functions of this crate know and answer, over the definitions of `format`.
 pub mod Known
+pub mod Held
 pub mod Examined
 pub mod FirstSays
 pub mod SecondSays

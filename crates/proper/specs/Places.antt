@@ -1,10 +1,8 @@
 -- What the checker of sections 4 and 5 counts and compares: the twos before a place, the key by which the places rise, and a number. Assumes nothing.
-use Rattle.std.specs.Prelude.{ℕ, ◌+◌, ◌-◌, ◌*◌, ◌/◌, ◌≤◌, ◌<◌, ◌≡◌, Bool, ◌&&◌, List, eqb, leb, length, get_or}
+use Rattle.std.specs.Prelude.{ℕ, ◌+◌, ◌-◌, ◌*◌, ◌/◌, ◌≤◌, ◌<◌, ◌≡◌, Bool, ◌&&◌, List, eqb, leb, length, get_or, Option, None, Some}
 use Rattle.format.specs.Lists.{bit, each, same}
 use Rattle.format.specs.Trits.{rank, tryte_count}
 use Rattle.format.specs.Image.{bytes, node_count, marked_nodes, shadow_at, grouped, starts, read}
-use Rattle.proper.specs.declared.placed.Entry.{Entry}
-use Rattle.proper.specs.declared.placed.Entry.TheVariants.{Wrong, Key}
 
 -- how many twos each tryte has
 abbrev pub TwoTable : List ℕ → Type 0
@@ -43,9 +41,9 @@ pub record Rises (trits H : List ℕ) (low p : ℕ) : Type 0 where
   pub above : low ≤ key trits H p
 
 -- what an entry p is answered by, where the key before it is below low
-abbrev pub Answered : List ℕ → List ℕ → ℕ → ℕ → Entry → Type 0
-Answered trits H low p Wrong = Rises trits H low p → ⊥
-Answered trits H low p (Key x) = Rises trits H low p × (x ≡ key trits H p)
+abbrev pub Answered : List ℕ → List ℕ → ℕ → ℕ → Option ℕ → Type 0
+Answered trits H low p None = Rises trits H low p → ⊥
+Answered trits H low p (Some x) = Rises trits H low p × (x ≡ key trits H p)
 
 -- a part of 4 bytes a number has number j, and that is x
 abbrev pub number_is : List ℕ → ℕ → ℕ → Bool

@@ -1,306 +1,200 @@
 // The checker: the sections in their order, up to the first fault.
-ghost use Rattle.std.specs.Prelude.{◌≡◌, List, [], ℕ, ◌+◌, ◌*◌, ◌≤◌, ◌<◌, length};
+ghost use Rattle.std.specs.Prelude.{◌≡◌, List, [], ◌∷◌, ℕ, ◌+◌, ◌*◌, ◌≤◌, ◌<◌, MatchResult, length};
 ghost use Rattle.format.specs.Faults.{fault, ◌then◌};
 ghost use Rattle.format.specs.Lists.{same};
-ghost use Rattle.format.specs.Trits.{untrytes, tryte_table};
-ghost use Rattle.format.specs.Image.{bytes, node_count, marked_nodes, starts, given};
-ghost use Rattle.format.specs.Proper.{contents_of, rest_of, given_fault, check_given, check_image};
+ghost use Rattle.format.specs.Trits.{untrytes};
+ghost use Rattle.format.specs.Image.{Section, bytes, node_count, marked_nodes, starts, given};
+ghost use Rattle.format.specs.Proper.{count_of, check_given, check_image};
 ghost use Rattle.format.specs.Answers.{refusal_number, checked_number};
-ghost use Rattle.samples.specs.Lent.{TritsIn};
-ghost use Rattle.trits.specs.Layout.{layout_of, laying};
-ghost use Rattle.proper.specs.Known.{Known, Shadowed, Marked};
+ghost use Rattle.format.specs.declared.Refusal.TheVariants.{ImageEnds};
+ghost use Rattle.trits.specs.Layout.{laying};
+ghost use Rattle.proper.specs.Held.{trits_in, shadows_in};
+ghost use Rattle.proper.specs.Known.{Shadowed, Marked};
 ghost use Rattle.samples.specs.Samples.{Sampling, sample_section};
-ghost use Rattle.proper.specs.Examined.{Examines, opens, FirstPassed, Sized, Through, Counted, given_from, check2, shadows2};
+ghost use Rattle.proper.specs.Examined.{Examined, Examines, opens, Cut, Opened, SectionPasses, FirstPassed, Sized, Counted, given_from, check2, shadows2};
 
-use format::{Checked, FAR, MAX_TRITS, MIDDLE, NEAR, Refusal};
-use little::get4;
+use crate::first::{Sizes, section1};
+use crate::marked::{count_marks, mark_samples_right, marks_right};
+use crate::ordered::both_right;
+use crate::sampled::samples_right;
+use crate::second::shadows_right;
+use crate::started::starts_right;
+use crate::walk::{Trits, Walk};
+use format::{MAX_TRITS, Refusal};
+use little::get;
+use trits::image::Image;
+use trits::{Layout, Plan};
 
-// The layout of a proper image, or the refusal.
-#[derive(Clone, Copy)]
-pub enum Examined {
-    Proper(trits::Layout),
-    Refused(Refusal),
-}
-
-// The front of a section: its count missing (21) or wrong (`code`), its contents missing (21).
-fn opened(rest: &[u8], code: Refusal, entries: usize, size: usize) -> Checked
-    ensures { checked_number result ≡ opens (refusal_number code) entries size rest.now }
+// The count at the front of a section (21 where it is missing).
+fn count(rest: &[u8]) -> Result<usize, Refusal>
+    ensures { MatchResult result (λ n. (4 ≤ length rest.now) × (n ≡ count_of rest.now)) (λ f. (f ≡ ImageEnds) × (length rest.now < 4)) }
 {
     if rest.len() < 4 {
-        return Checked::Refused(Refusal::ImageEnds);
+        return Err(Refusal::ImageEnds);
     }
-    let found = get4(rest, 0);
-    if found != entries {
-        return Checked::Refused(code);
-    }
+    Ok(get::<4>(rest, 0))
+}
+
+// The contents behind a section's count, and what follows them (21 where they are missing).
+fn contents(rest: &[u8], size: usize) -> Result<(&[u8], &[u8]), Refusal>
+    requires { 4 ≤ length rest.now }
+    ensures { MatchResult result (λ p. Cut size rest.now p.0.now p.1.now) (λ f. (f ≡ ImageEnds) × (length rest.now < 4 + size)) }
+{
     if rest.len() - 4 < size {
-        return Checked::Refused(Refusal::ImageEnds);
+        return Err(Refusal::ImageEnds);
     }
-    Checked::Proper
+    Ok(rest[4..].split_at(size))
 }
 
-// A section's contents.
-fn contents(rest: &[u8], size: usize) -> &[u8]
-    requires { 4 + size ≤ length rest.now }
-    ensures { (result.now ≡ contents_of size rest.now) × (length result.now ≡ size) }
+// The contents of a section of so many entries, and what follows them. A wrong count is refused with `code`.
+fn section<'a>(
+    rest: &'a [u8],
+    code: Refusal,
+    entries: usize,
+    size: usize,
+) -> Result<(&'a [u8], &'a [u8]), Refusal>
+    ensures { MatchResult result (λ p. Opened (refusal_number code) entries size rest.now p.0.now p.1.now)
+        (λ f. refusal_number f ≡ opens (refusal_number code) entries size rest.now) }
 {
-    let end = 4 + size;
-    &rest[4..end]
-}
-
-// What follows a section.
-fn after(rest: &[u8], size: usize) -> &[u8]
-    requires { 4 + size ≤ length rest.now }
-    ensures { result.now ≡ rest_of size rest.now }
-{
-    let end = 4 + size;
-    &rest[end..]
-}
-
-// Nothing follows section 9 (26).
-fn ended(rest: &[u8]) -> Checked
-    ensures { checked_number result ≡ check_given [] rest.now }
-{
-    if rest.len() == 0 {
-        return Checked::Proper;
+    let found = count(rest)?;
+    if found != entries {
+        return Err(code);
     }
-    Checked::Refused(Refusal::BytesAfterImage)
+    contents(rest, size)
 }
 
-// Section 9, and that nothing follows.
-fn from9(marks: &[u8], rest: &[u8], lay: trits::Layout) -> Checked
+// Section 9, and that nothing follows (26).
+fn from9(marks: &[u8], rest: &[u8], lay: Layout) -> Result<(), Refusal>
     requires { (trits : List ℕ) × (H : List ℕ) × Marked trits H marks.now × (lay.nodes ≡ node_count trits) }
     ensures { (trits H : List ℕ) → Marked trits H marks.now → lay.nodes ≡ node_count trits
         → checked_number result ≡ check_given (given_from 6 trits H) rest.now }
 {
     let words = (lay.nodes + 63) / 64;
-    let size = 2 * words;
-    if let Checked::Refused(f) = opened(rest, Refusal::IndexWrong, words, size) {
-        return Checked::Refused(f);
+    let (part, end) = section(rest, Refusal::IndexWrong, words, 2 * words)?;
+    if !mark_samples_right(marks, part) {
+        return Err(Refusal::IndexWrong);
     }
-    let right = crate::marked::mark_samples_right(marks, contents(rest, size));
-    if right {
-        return ended(after(rest, size));
+    if !end.is_empty() {
+        return Err(Refusal::BytesAfterImage);
     }
-    Checked::Refused(Refusal::IndexWrong)
+    Ok(())
 }
 
-// Section 6, 7 or 8.
-fn sample_section(
-    bs: &[u8],
-    table: &[u8; 243],
-    rest: &[u8],
-    l: usize,
-    step: usize,
-    fan: usize,
-    width: usize,
-) -> Checked
-    requires { (table.now ≡ tryte_table) × ((i : ℕ) × Sampling i step fan width) × ((trits : List ℕ) × TritsIn trits bs.now × (length trits ≡ l)) }
-    ensures { (trits : List ℕ) → TritsIn trits bs.now → length trits ≡ l → checked_number result ≡ given_fault (sample_section step fan width trits) rest.now }
+// Section 6, 7 or 8, and what follows it.
+fn sample_section<'a>(trits: &Trits, rest: &'a [u8], plan: Plan) -> Result<&'a [u8], Refusal>
+    requires { (i : ℕ) × Sampling i plan.step plan.fan plan.width }
+    ensures { MatchResult result (λ r. SectionPasses (sample_section plan.step plan.fan plan.width (trits_in trits.now)) rest.now r.now)
+        (λ f. (ss : List Section) → refusal_number f ≡ check_given (sample_section plan.step plan.fan plan.width (trits_in trits.now) ∷ ss) rest.now) }
 {
-    let entries = l / step + 1;
-    let size = width * (2 * entries);
-    if let Checked::Refused(f) = opened(rest, Refusal::IndexWrong, entries, size) {
-        return Checked::Refused(f);
+    let entries = trits.count / plan.step + 1;
+    let (part, end) = section(
+        rest,
+        Refusal::IndexWrong,
+        entries,
+        plan.width * (2 * entries),
+    )?;
+    if !samples_right(trits, part, plan) {
+        return Err(Refusal::IndexWrong);
     }
-    let part = contents(rest, size);
-    let right = crate::sampled::samples_right(bs, table, part, l, step, fan, width);
-    if right {
-        return Checked::Proper;
-    }
-    Checked::Refused(Refusal::IndexWrong)
-}
-
-// How section 6, 7 or 8 counts: trits from sample to sample, steps until counting begins anew (in section 6 two, which no image reaches), bytes a number.
-#[derive(Clone, Copy)]
-struct Plan {
-    step: usize,
-    fan: usize,
-    width: usize,
-}
-
-// The plan of section 6 + i.
-fn plan_of(i: usize) -> Plan
-    requires { i < 3 }
-    ensures { Sampling i result.step result.fan result.width }
-{
-    if i == 0 {
-        return Plan {
-            step: FAR,
-            fan: 2,
-            width: 4,
-        };
-    }
-    if i == 1 {
-        return Plan {
-            step: MIDDLE,
-            fan: FAR / MIDDLE,
-            width: 2,
-        };
-    }
-    Plan {
-        step: NEAR,
-        fan: MIDDLE / NEAR,
-        width: 1,
-    }
+    Ok(end)
 }
 
 // Sections 6 to 9.
-fn from6(bs: &[u8], marks: &[u8], table: &[u8; 243], rest: &[u8], lay: trits::Layout) -> Checked
-    requires { (table.now ≡ tryte_table) × ((trits : List ℕ) × (H : List ℕ) × Counted trits H bs.now marks.now lay) }
-    ensures { (trits H : List ℕ) → Counted trits H bs.now marks.now lay → checked_number result ≡ check_given (given_from 3 trits H) rest.now }
+fn from6(trits: &Trits, marks: &[u8], rest: &[u8], lay: Layout) -> Result<(), Refusal>
+    requires { (H : List ℕ) × Counted (trits_in trits.now) H marks.now lay }
+    ensures { (H : List ℕ) → Counted (trits_in trits.now) H marks.now lay → checked_number result ≡ check_given (given_from 3 (trits_in trits.now) H) rest.now }
 {
-    let l = lay.trits;
-    let mut left = rest;
-    let mut i = 0;
-    while i < 3 {
-        let p = plan_of(i);
-        let step = p.step;
-        let fan = p.fan;
-        let width = p.width;
-        if let Checked::Refused(f) = sample_section(bs, table, left, l, step, fan, width) {
-            return Checked::Refused(f);
-        }
-        let size = width * (2 * (l / step + 1));
-        let behind = after(left, size);
-        left = behind;
-        i += 1;
-    }
-    from9(marks, left, lay)
+    let after6 = sample_section(trits, rest, Plan::FAR)?;
+    let after7 = sample_section(trits, after6, Plan::MIDDLE)?;
+    let after8 = sample_section(trits, after7, Plan::NEAR)?;
+    from9(marks, after8, lay)
 }
 
-// Section 5's front has fault `f`, and section 4's contents (25) come before it.
-fn before5(hs: &[u8], firsts: &[u8], n: usize, f: Refusal) -> Checked
+// The first fault where section 5's front has fault `f`: section 4's contents (25) come before it.
+fn before5(hs: &[u8], firsts: &[u8], n: usize, f: Refusal) -> Refusal
     requires { (trits : List ℕ) × (H : List ℕ) × Shadowed trits H hs.now × (node_count trits ≡ n)
         × (length firsts.now ≡ 4 * (length (marked_nodes trits H) + 1)) }
     ensures { (trits H : List ℕ) → Shadowed trits H hs.now → node_count trits ≡ n
-        → checked_number result ≡ (fault 25 (same firsts.now (bytes 4 (starts trits H))) then refusal_number f) }
+        → refusal_number result ≡ (fault 25 (same firsts.now (bytes 4 (starts trits H))) then refusal_number f) }
 {
-    let right = crate::started::starts_right(hs, firsts, n);
-    let first = if right { f } else { Refusal::IndexWrong };
-    Checked::Refused(first)
+    let right = starts_right(hs, firsts, n);
+    if right { f } else { Refusal::IndexWrong }
 }
 
-// Section 4's contents, then sections 5 to 9. Sections 4 and 5 are compared together: where section 5 is as long as it should be, their faults are one.
-fn from5(
-    bs: &[u8],
-    hs: &[u8],
-    marks: &[u8],
-    firsts: &[u8],
-    rest: &[u8],
-    lay: trits::Layout,
-) -> Checked
-    requires { (length firsts.now ≡ 4 * (lay.marked + 1)) × ((trits : List ℕ) × (H : List ℕ) × Through trits H bs.now hs.now marks.now lay) }
-    ensures { (trits H : List ℕ) → Through trits H bs.now hs.now marks.now lay
-        → checked_number result ≡ (fault 25 (same firsts.now (bytes 4 (starts trits H))) then check_given (given_from 2 trits H) rest.now) }
-{
-    let k = lay.shadows;
-    let size = 4 * k;
-    if let Checked::Refused(f) = opened(rest, Refusal::IndexWrong, k, size) {
-        let n = lay.nodes;
-        return before5(hs, firsts, n, f);
-    }
-    let table = trits::digits::tryte_table();
-    let l = lay.trits;
-    let n = lay.nodes;
-    let right = crate::ordered::both_right(bs, hs, firsts, contents(rest, size), &table, l, n);
-    if right {
-        return from6(bs, marks, &table, after(rest, size), lay);
-    }
-    Checked::Refused(Refusal::IndexWrong)
-}
-
-// Sections 4 to 9.
-fn from4(bs: &[u8], hs: &[u8], marks: &[u8], rest: &[u8], lay: trits::Layout) -> Checked
-    requires { (trits : List ℕ) × (H : List ℕ) × Through trits H bs.now hs.now marks.now lay }
-    ensures { (trits H : List ℕ) → Through trits H bs.now hs.now marks.now lay
-        → checked_number result ≡ check_given (given_from 1 trits H) rest.now }
+// Sections 4 to 9. Sections 4 and 5 are compared together: where section 5 is as long as it should be, their faults are one.
+fn from4(walk: &Walk, marks: &[u8], rest: &[u8], lay: Layout) -> Result<(), Refusal>
+    requires { Counted (trits_in walk.now.trits) (shadows_in walk.now) marks.now lay }
+    ensures { checked_number result ≡ check_given (given_from 1 (trits_in walk.now.trits) (shadows_in walk.now)) rest.now }
 {
     let entries = lay.marked + 1;
-    let size = 4 * entries;
-    if let Checked::Refused(f) = opened(rest, Refusal::IndexWrong, entries, size) {
-        return Checked::Refused(f);
+    let (firsts, after4) = section(rest, Refusal::IndexWrong, entries, 4 * entries)?;
+    match section(after4, Refusal::IndexWrong, lay.shadows, 4 * lay.shadows) {
+        Err(f) => Err(before5(walk.shadows, firsts, lay.nodes, f)),
+        Ok((part, after5)) => {
+            if !both_right(walk, firsts, part, lay.nodes) {
+                return Err(Refusal::IndexWrong);
+            }
+            from6(&walk.trits, marks, after5, lay)
+        }
     }
-    let firsts = contents(rest, size);
-    from5(bs, hs, marks, firsts, after(rest, size), lay)
 }
 
 // Sections 3 to 9, where section 1 gave the sizes.
-fn from3(bs: &[u8], hs: &[u8], rest: &[u8], l: usize, n: usize, c: usize, k: usize) -> Examined
-    requires { (trits : List ℕ) × (H : List ℕ) × Known trits H bs.now hs.now × Sized trits l n c k }
-    ensures { (trits H : List ℕ) → Known trits H bs.now hs.now → Sized trits l n c k
-        → Examines (check_given (given trits H) rest.now) (laying trits H) result }
+fn from3(walk: &Walk, rest: &[u8], sizes: Sizes) -> Result<Layout, Refusal>
+    requires { Sized (trits_in walk.now.trits) walk.now.trits.count sizes.nodes sizes.roots sizes.shadows }
+    ensures { Examines (check_given (given (trits_in walk.now.trits) (shadows_in walk.now)) rest.now) (laying (trits_in walk.now.trits) (shadows_in walk.now)) result }
 {
-    let size = 8 * ((n + 63) / 64);
-    if let Checked::Refused(f) = opened(rest, Refusal::IndexWrong, n, size) {
-        return Examined::Refused(f);
+    let n = sizes.nodes;
+    let (marks, after3) = section(rest, Refusal::IndexWrong, n, 8 * ((n + 63) / 64))?;
+    if !marks_right(walk.shadows, marks, n) {
+        return Err(Refusal::IndexWrong);
     }
-    let marks = contents(rest, size);
-    let right = crate::marked::marks_right(hs, marks, n);
-    if right {
-        let h = crate::marked::count_marks(marks);
-        let lay = trits::lay_out(l, n, c, k, h);
-        return match from4(bs, hs, marks, after(rest, size), lay) {
-            Checked::Refused(f) => Examined::Refused(f),
-            Checked::Proper => Examined::Proper(lay),
-        };
-    }
-    Examined::Refused(Refusal::IndexWrong)
+    let h = count_marks(marks);
+    let lay = trits::lay_out(walk.trits.count, n, sizes.roots, sizes.shadows, h);
+    from4(walk, marks, after3, lay)?;
+    Ok(lay)
 }
 
 // Sections 2 to 9.
-fn from2(bs: &[u8], rest: &[u8], l: usize, n: usize, c: usize, k: usize) -> Examined
-    requires { FirstPassed bs.now l n c k }
+fn from2<'a>(bs: &'a [u8], rest: &'a [u8], l: usize, sizes: Sizes) -> Result<Layout, Refusal>
+    requires { FirstPassed bs.now l sizes.nodes sizes.roots sizes.shadows }
     ensures { Examines (check2 (untrytes l bs.now) rest.now)
         (laying (untrytes l bs.now) (shadows2 (untrytes l bs.now) rest.now)) result }
 {
-    let size = 2 * k;
-    if let Checked::Refused(f) = opened(rest, Refusal::ShadowsWrong, k, size) {
-        return Examined::Refused(f);
+    let k = sizes.shadows;
+    let (hs, after2) = section(rest, Refusal::ShadowsWrong, k, 2 * k)?;
+    let trits = Trits {
+        bytes: bs,
+        count: l,
+    };
+    if !shadows_right(&trits, hs) {
+        return Err(Refusal::ShadowsWrong);
     }
-    let hs = contents(rest, size);
-    let right = crate::second::shadows_right(bs, hs, l);
-    if right {
-        return from3(bs, hs, after(rest, size), l, n, c, k);
-    }
-    Examined::Refused(Refusal::ShadowsWrong)
+    let walk = Walk { trits, shadows: hs };
+    from3(&walk, after2, sizes)
 }
 
-// The whole image, and its layout where it is proper.
-pub fn examine(image: &[u8]) -> Examined
-    ensures { Examines (check_image image.now) (layout_of image.now) result }
+// The image in these bytes if it is proper, or its first fault.
+pub fn examine<'a>(bytes: &'a [u8]) -> Result<Image<'a>, Refusal>
+    ensures { Examined bytes.now result }
 {
-    if image.len() < 4 {
-        return Examined::Refused(Refusal::ImageEnds);
-    }
-    let l = get4(image, 0);
-    if MAX_TRITS < l {
-        return Examined::Refused(Refusal::ImageTooLarge);
+    let l = count(bytes)?;
+    if l > MAX_TRITS {
+        return Err(Refusal::ImageTooLarge);
     }
     if l == 0 {
-        return Examined::Refused(Refusal::TritsWrong);
+        return Err(Refusal::TritsWrong);
     }
-    let size = (l + 4) / 5;
-    if image.len() - 4 < size {
-        return Examined::Refused(Refusal::ImageEnds);
-    }
-    let bs = contents(image, size);
-    match crate::first::section1(bs, l) {
-        crate::first::First::Wrong(f) => Examined::Refused(f),
-        crate::first::First::Sizes {
-            nodes,
-            roots,
-            shadows,
-        } => from2(bs, after(image, size), l, nodes, roots, shadows),
-    }
+    let (bs, rest) = contents(bytes, (l + 4) / 5)?;
+    let sizes = section1(bs, l)?;
+    let lay = from2(bs, rest, l, sizes)?;
+    Ok(Image::of(bytes, lay))
 }
 
 // Whether an image is proper, or its first fault.
-pub fn check(image: &[u8]) -> Checked
+pub fn check(image: &[u8]) -> Result<(), Refusal>
     ensures { checked_number result ≡ check_image image.now }
 {
-    match examine(image) {
-        Examined::Refused(f) => Checked::Refused(f),
-        Examined::Proper(lay) => Checked::Proper,
-    }
+    examine(image)?;
+    Ok(())
 }

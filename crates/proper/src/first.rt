@@ -1,31 +1,20 @@
 // Section 1 of an image: its own rules (23), then the limits (22), and the sizes that its trits give.
-ghost use Rattle.std.specs.Prelude.{◌≡◌, true, ◌+◌, ◌≤◌, ◌<◌, eqb, length};
-ghost use Rattle.format.specs.Lists.{bit, up};
-ghost use Rattle.format.specs.Trits.{untrytes, tryte_table};
+ghost use Rattle.std.specs.Prelude.{◌≡◌, true, ◌+◌, ◌≤◌, ◌<◌, length};
+ghost use Rattle.format.specs.Lists.{up};
+ghost use Rattle.format.specs.Trits.{untrytes};
 ghost use Rattle.format.specs.Proper.{bytes_low, padded};
 ghost use Rattle.samples.specs.Lent.{TritsIn};
 ghost use Rattle.proper.specs.FirstSays.{FirstSays, RootsSay, NodesSay, Ballot, Balloted};
 
 use format::{MAX_EDGES, MAX_NODES, Refusal};
-use little::wide;
-use trits::digits::{trit, tryte_count};
+use trits::digits::{trit, tryte_ranks};
 
-// The sizes that section 1 gives, or its refusal.
+// The sizes that section 1 gives.
 #[derive(Clone, Copy)]
-pub enum First {
-    Wrong(format::Refusal),
-    Sizes {
-        nodes: usize,
-        roots: usize,
-        shadows: usize,
-    },
-}
-
-// A number that the trits give, or they break a rule.
-#[derive(Clone, Copy)]
-pub enum Given {
-    Number(usize),
-    Broken,
+pub struct Sizes {
+    pub nodes: usize,
+    pub roots: usize,
+    pub shadows: usize,
 }
 
 // A place, and the zeros and ones before it.
@@ -36,25 +25,11 @@ struct Count {
     p: usize,
 }
 
-// 1 where the two are the same, else 0.
-pub fn one_if(a: usize, b: usize) -> usize
-    ensures { (result ≡ bit (eqb a b)) × (result ≤ 1) }
-{
-    if a == b { 1 } else { 0 }
-}
-
 // Whether no byte is above 242.
 fn bytes_low(bs: &[u8]) -> bool
     ensures { result ≡ bytes_low bs.now }
 {
-    let mut i = 0;
-    while i < bs.len() {
-        if bs[i] > 242 {
-            return false;
-        }
-        i += 1;
-    }
-    true
+    bs.iter().all(|b| *b <= 242)
 }
 
 // Whether the trits of the bytes past the first `l` are 0.
@@ -62,82 +37,68 @@ fn zero_padded(bs: &[u8], l: usize) -> bool
     requires { (length bs.now ≡ up l 5) × (l ≤ 125536) }
     ensures { result ≡ padded l bs.now }
 {
-    let end = 5 * bs.len();
-    let mut p = l;
-    while p < end {
-        let t = trit(bs, p);
-        if t != 0 {
+    for p in l..5 * bs.len() {
+        if trit(bs, p) != 0 {
             return false;
         }
-        p += 1;
     }
     true
 }
 
 // The number of roots: the ones before the first zero, where no 2 stands.
-fn roots_given(bs: &[u8], l: usize) -> Given
+fn roots_given(bs: &[u8], l: usize) -> Option<usize>
     requires { (length bs.now ≡ up l 5) × (l ≤ 125536) }
     ensures { RootsSay (untrytes l bs.now) result }
 {
-    let mut p = 0;
-    while p < l {
-        let t = trit(bs, p);
-        if t == 0 {
-            return Given::Number(p);
+    for p in 0..l {
+        match trit(bs, p) {
+            0 => return Some(p),
+            1 => {}
+            _ => return None,
         }
-        if t == 2 {
-            return Given::Broken;
-        }
-        p += 1;
     }
-    Given::Broken
+    None
 }
 
-// One trit on.
-fn trit_on(bs: &[u8], l: usize, c: Count) -> Count
-    requires { TritsIn (untrytes l bs.now) bs.now × Balloted l bs.now c }
-    ensures { (result.p ≡ c.p + 1) × Ballot (untrytes l bs.now) result.p result.zeros result.ones }
-{
-    let p = c.p;
-    let t = trit(bs, p);
-    let zeros = c.zeros + one_if(t, 0);
-    let ones = c.ones + one_if(t, 1);
-    Count {
-        zeros,
-        ones,
-        p: p + 1,
+impl Count {
+    // One trit on.
+    fn trit_on(self, bs: &[u8], l: usize) -> Count
+        requires { TritsIn (untrytes l bs.now) bs.now × Balloted l bs.now self }
+        ensures { (result.p ≡ self.p + 1) × Ballot (untrytes l bs.now) result.p result.zeros result.ones }
+    {
+        let t = trit(bs, self.p);
+        Count {
+            zeros: self.zeros + usize::from(t == 0),
+            ones: self.ones + usize::from(t == 1),
+            p: self.p + 1,
+        }
     }
-}
 
-// A whole tryte on where none of its zeros can come too early, else one trit.
-fn onward(bs: &[u8], table: &[u8; 243], l: usize, c: Count) -> Count
-    requires { (table.now ≡ tryte_table) × TritsIn (untrytes l bs.now) bs.now × Balloted l bs.now c }
-    ensures { (c.p < result.p) × Ballot (untrytes l bs.now) result.p result.zeros result.ones }
-{
-    let p = c.p;
-    let q = p / 5;
-    if l < p + 5 {
-        return trit_on(bs, l, c);
-    }
-    if p != 5 * q {
-        return trit_on(bs, l, c);
-    }
-    let x = wide(bs[q]);
-    let zeros = c.zeros + tryte_count(table, x, 0);
-    if c.ones < zeros {
-        return trit_on(bs, l, c);
-    }
-    let ones = c.ones + tryte_count(table, x, 1);
-    Count {
-        zeros,
-        ones,
-        p: p + 5,
+    // A whole tryte on where none of its zeros can come too early, else one trit.
+    fn onward(self, bs: &[u8], l: usize) -> Count
+        requires { TritsIn (untrytes l bs.now) bs.now × Balloted l bs.now self }
+        ensures { (self.p < result.p) × Ballot (untrytes l bs.now) result.p result.zeros result.ones }
+    {
+        let q = self.p / 5;
+        if l < self.p + 5 || self.p != 5 * q {
+            return self.trit_on(bs, l);
+        }
+        let more = tryte_ranks(usize::from(bs[q]));
+        let zeros = self.zeros + more.zeros;
+        if self.ones < zeros {
+            return self.trit_on(bs, l);
+        }
+        Count {
+            zeros,
+            ones: self.ones + more.ones,
+            p: self.p + 5,
+        }
     }
 }
 
 // The number of nodes: the ones. While trits follow, the zeros are no more than the ones; at the end they are one more.
-fn nodes_given(bs: &[u8], table: &[u8; 243], l: usize) -> Given
-    requires { (length bs.now ≡ up l 5) × (l ≤ 125536) × (table.now ≡ tryte_table)
+fn nodes_given(bs: &[u8], l: usize) -> Option<usize>
+    requires { (length bs.now ≡ up l 5) × (l ≤ 125536)
         × (bytes_low bs.now ≡ true) × (padded l bs.now ≡ true) }
     ensures { NodesSay (untrytes l bs.now) result }
 {
@@ -146,48 +107,42 @@ fn nodes_given(bs: &[u8], table: &[u8; 243], l: usize) -> Given
         ones: 0,
         p: 0,
     };
+    // Not a for: a turn goes on by a trit or by a tryte.
     while c.p < l {
         if c.ones < c.zeros {
-            return Given::Broken;
+            return None;
         }
-        c = onward(bs, table, l, c);
+        c = c.onward(bs, l);
     }
-    let ones = c.ones;
-    if ones + 1 == c.zeros {
-        return Given::Number(ones);
+    if c.ones + 1 != c.zeros {
+        return None;
     }
-    Given::Broken
+    Some(c.ones)
 }
 
 // Section 1: its own rules (23), then n and m (22).
-pub fn section1(bs: &[u8], l: usize) -> First
+pub fn section1(bs: &[u8], l: usize) -> Result<Sizes, Refusal>
     requires { (length bs.now ≡ up l 5) × (1 ≤ l) × (l ≤ 125536) }
     ensures { FirstSays l bs.now result }
 {
-    if !bytes_low(bs) {
-        return First::Wrong(Refusal::TritsWrong);
+    if !bytes_low(bs) || !zero_padded(bs, l) {
+        return Err(Refusal::TritsWrong);
     }
-    if !zero_padded(bs, l) {
-        return First::Wrong(Refusal::TritsWrong);
-    }
-    let Given::Number(roots) = roots_given(bs, l) else {
-        return First::Wrong(Refusal::TritsWrong);
+    let Some(roots) = roots_given(bs, l) else {
+        return Err(Refusal::TritsWrong);
     };
-    let table = trits::digits::tryte_table();
-    let Given::Number(nodes) = nodes_given(bs, &table, l) else {
-        return First::Wrong(Refusal::TritsWrong);
+    let Some(nodes) = nodes_given(bs, l) else {
+        return Err(Refusal::TritsWrong);
     };
     if nodes > MAX_NODES {
-        return First::Wrong(Refusal::ImageTooLarge);
+        return Err(Refusal::ImageTooLarge);
     }
-    let edges = l - nodes - roots - 1;
-    if edges > MAX_EDGES {
-        return First::Wrong(Refusal::ImageTooLarge);
+    if l - nodes - roots - 1 > MAX_EDGES {
+        return Err(Refusal::ImageTooLarge);
     }
-    let shadows = l - 2 * nodes - 1;
-    First::Sizes {
+    Ok(Sizes {
         nodes,
         roots,
-        shadows,
-    }
+        shadows: l - 2 * nodes - 1,
+    })
 }

@@ -9,3 +9,4 @@ pub mod placed;
 pub mod sampled;
 pub mod second;
 pub mod started;
+pub mod walk;

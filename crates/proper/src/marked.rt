@@ -1,4 +1,5 @@
-// Sections 3 and 9: the marks, and how many stand before each word.
+// Sections 3 and 9: the marks, and how many stand before each word. Here and in `started` section 2 alone is known, which many trits fit, so the
+// contracts speak of all that do; the type `Walk` would ask callers for section 1 too.
 ghost use Rattle.std.specs.Prelude.{◌≡◌, List, [], ℕ, ◌+◌, ◌*◌, ◌≤◌, ◌<◌, length, get_or};
 ghost use Rattle.std.specs.Int.Count.{ones};
 ghost use Rattle.format.specs.Lists.{same, up};
@@ -7,7 +8,7 @@ ghost use Rattle.format.specs.Proper.{ProperTrits};
 ghost use Rattle.proper.specs.Known.{Shadowed, Marked};
 ghost use Rattle.proper.specs.Marking.{MarkMap};
 
-use little::{get2, get8};
+use little::get;
 use marks::with_mark;
 
 // Entry i of H.
@@ -15,7 +16,7 @@ pub fn shadow(hs: &[u8], i: usize) -> usize
     requires { (trits : List ℕ) × (H : List ℕ) × Shadowed trits H hs.now × (i < length H) }
     ensures { (1 ≤ result) × (result ≤ 30000) × ((trits H : List ℕ) → Shadowed trits H hs.now → result ≡ get_or H i 0) }
 {
-    get2(hs, 2 * i)
+    get::<2>(hs, 2 * i)
 }
 
 // Sets the marks of the nodes that occur in H, in an empty map.
@@ -23,14 +24,10 @@ fn set_marks(hs: &[u8], map: &mut [u64])
     requires { MarkMap [] map.old × ((trits : List ℕ) × (H : List ℕ) × Shadowed trits H hs.now) }
     ensures { (trits H : List ℕ) → Shadowed trits H hs.now → MarkMap H map.new }
 {
-    let many = hs.len() / 2;
-    let mut i = 0;
-    while i < many {
+    for i in 0..hs.len() / 2 {
         let v = shadow(hs, i) - 1;
         let w = v / 64;
-        let word = map[w];
-        map[w] = with_mark(word, v % 64);
-        i += 1;
+        map[w] = with_mark(map[w], v % 64);
     }
 }
 
@@ -40,15 +37,10 @@ fn words_right(map: &[u64], part: &[u8], n: usize) -> bool
     ensures { (trits H : List ℕ) → ProperTrits trits H → MarkMap H map.now → node_count trits ≡ n
         → result ≡ same part.now (bytes 8 (mark_words trits H)) }
 {
-    let words = (n + 63) / 64;
-    let mut w = 0;
-    while w < words {
-        let word = map[w];
-        let found = get8(part, 8 * w);
-        if found != word {
+    for w in 0..(n + 63) / 64 {
+        if get::<8>(part, 8 * w) as u64 != map[w] {
             return false;
         }
-        w += 1;
     }
     true
 }
@@ -68,8 +60,8 @@ fn marks_in(marks: &[u8], w: usize) -> usize
     requires { 8 * w + 8 ≤ length marks.now }
     ensures { result ≡ ones (read 8 (8 * w) marks.now) }
 {
-    let word = get8(marks, 8 * w);
-    u64::count_ones(word) as usize
+    let word = get::<8>(marks, 8 * w) as u64;
+    word.count_ones() as usize
 }
 
 // How many nodes are marked: the ones of section 3.
@@ -77,12 +69,9 @@ pub fn count_marks(marks: &[u8]) -> usize
     requires { (trits : List ℕ) × (H : List ℕ) × Marked trits H marks.now }
     ensures { (trits H : List ℕ) → Marked trits H marks.now → result ≡ length (marked_nodes trits H) }
 {
-    let words = marks.len() / 8;
     let mut count = 0;
-    let mut w = 0;
-    while w < words {
+    for w in 0..marks.len() / 8 {
         count += marks_in(marks, w);
-        w += 1;
     }
     count
 }
@@ -92,16 +81,12 @@ pub fn mark_samples_right(marks: &[u8], part: &[u8]) -> bool
     requires { (trits : List ℕ) × (H : List ℕ) × Marked trits H marks.now × (length part.now ≡ 2 * up (node_count trits) 64) }
     ensures { (trits H : List ℕ) → Marked trits H marks.now → result ≡ same part.now (bytes 2 (mark_samples trits H)) }
 {
-    let words = marks.len() / 8;
     let mut sum = 0;
-    let mut w = 0;
-    while w < words {
-        let found = get2(part, 2 * w);
-        if found != sum {
+    for w in 0..marks.len() / 8 {
+        if get::<2>(part, 2 * w) != sum {
             return false;
         }
         sum += marks_in(marks, w);
-        w += 1;
     }
     true
 }
