@@ -6,7 +6,7 @@ use native.Mathlib.Omega.{arith}
 use mathlib.Core.Path.{◌≡◌, sym, ap, ◌∙◌}
 use mathlib.Core.List.{List}
 use lib.ListN.{length, get_or, take, drop, set, length-set, length-append, length-drop, take-append-drop}
-use lib.Seq.{paste, paste-zero, paste-suc, length-paste, take_all, set_comm, length-take-le, take_at, drop_at, drop-drop}
+use lib.Seq.{paste, paste-suc, take_all, set_comm, length-take-le, take_at, drop_at, drop-drop}
 use Rattle.format.specs.Lists.{over, one_to}
 use Rattle.format.proofs.Laws.{length_run, get_or_run}
 use Rattle.little.specs.Put.{put_at}
@@ -68,13 +68,7 @@ pub record Listed (old : List ℕ) (at c : ℕ) (table : List ℕ) (i : ℕ) : T
   pub upto : i ≤ c
   pub are : table ≡ paste old at (one_to c) i
 
-pub listed_none : (old : List ℕ) (at c : ℕ) → at + c ≤ length old → Listed old at c old 0
-listed_none old at c r = record { room = r; upto = omega arith; are = paste-zero old at (one_to c) }
-
 module _ {old : List ℕ} {at c : ℕ} {table : List ℕ} {i : ℕ} (r : Listed old at c table i) where
-  pub listed_length : length table ≡ length old
-  listed_length = ap length r.are ∙ length-paste old at (one_to c) i (omega (arith, r.room, r.upto)) (omega (arith, length_run 1 c, r.upto))
-
   pub listed_next : i < c → Listed old at c (set table (at + i) (i + 1)) (i + 1)
   listed_next h =
       let v : i + 1 ≡ get_or (one_to c) i 0 = omega (arith, get_or_run 1 c i 0 h) in

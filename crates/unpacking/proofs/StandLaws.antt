@@ -42,8 +42,8 @@ module _ {b : List ℕ} {lay : Layout} {p : ℕ} {s : Stand} (T : Standing b lay
   pub last : (lay.roots ≤ s.zero) × (s.zero < p)
   last = rw T.is (omega (arith, S, last_from P p a l, last_past P p a l))
 
-  pub two_left : (get_or trits p 0 ≡ 0 → ⊥) → (get_or trits p 0 ≡ 1 → ⊥) → get_or trits p 0 ≡ 2
-  two_left e f = omega (arith, P.threes p l)
+  pub three_left : get_or trits p 0 < 3
+  three_left = P.threes p l
 
   -- the numbers fit
   pub count_fits : get_or trits p 0 ≡ 0 → p - s.zero - 1 < 65536
