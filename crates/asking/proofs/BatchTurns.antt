@@ -6,20 +6,17 @@ use native.Mathlib.Omega.{arith}
 use mathlib.Core.Path.{◌≡◌, refl, sym, ap, ap₂, ◌∙◌}
 use mathlib.Core.List.{List, [], ◌∷◌, ◌++◌}
 use lib.Dec.{lit<}
-use lib.ListN.{length, get_or, take, drop, set, length-append}
-use lib.Seq.{take-suc, take_all, length-take-le, take-append_seam, drop-append-add, drop-drop, paste-zero, paste-suc}
-use borrow.Author.Tests.{ne_eqb}
-use Rattle.format.specs.Lists.{bit, over}
+use lib.ListN.{length, get_or, take, drop, set, length-append, get_or-append}
+use lib.Seq.{take-suc, take_all, length-take-le, take-append_seam, drop-append-add, drop-append_seam, drop-drop, get_or-drop, paste-zero, paste-suc}
+use Rattle.std.specs.Prelude.{Ok, Err}
+use Rattle.format.specs.Lists.{over}
 use Rattle.format.specs.Proper.{check_image, trits_of, shadows_of}
-use Rattle.format.specs.Question.{Reply, refused, plain}
-use Rattle.format.specs.Answers.{refusal_number, asked_number}
+use Rattle.format.specs.Question.{Reply, plain}
+use Rattle.format.specs.Answers.{refusal_number}
 use Rattle.format.specs.Batch.{three_words, good, BatchOutcome, batch_outcome, batch_leaves, TallyRoom}
 use Rattle.format.specs.declared.Refusal.{Refusal}
 use Rattle.format.specs.declared.Tally.{Tally}
-use Rattle.format.specs.declared.Asked.{Asked}
-use Rattle.format.specs.declared.Asked.TheVariants as asked
 use Rattle.format.proofs.OneToOne.{refusal_some}
-use Rattle.format.proofs.Outcomes.{length_over}
 use Rattle.format.proofs.BatchLaws.{length_answers, answers_at, length_words, good_le, batch_ran_lem, runs_batch, batch_improper}
 use Rattle.little.specs.Put.{put_at}
 use Rattle.asking.specs.BatchSteps.{replies, reply_at, good_one, answer_words, counted}
@@ -47,14 +44,20 @@ set_three l at x y z h =
     ∙ ap (λ (m : List ℕ). set (set m (at + 1) y) (at + 2) z) (paste-suc l at s 0 0 (omega arith) (lit< tt))
     ∙ ap (λ (m : List ℕ). set m (at + 2) z) (paste-suc l at s 1 0 (omega arith) (lit< tt)) ∙ paste-suc l at s 2 0 (omega arith) (lit< tt)
 
--- what is put for one of two equal answers is put for the other
-pub put_same : {r s : Reply} → r ≡ s → (l : List ℕ) (at : ℕ) {put : List ℕ} {k : ℕ} → k ≡ good_one r → put ≡ put_at l at (three_words r)
-    → (k ≡ good_one s) × (put ≡ put_at l at (three_words s))
-put_same e l at ek ep = (ek ∙ ap good_one e, ep ∙ ap (λ (y : Reply). put_at l at (three_words y)) e)
+-- the three words of a question, taken off those from `at` on
+module _ (questions question rest : List ℕ) (at : ℕ) (e : drop at questions ≡ question ++ rest) (l : length question ≡ 3) where
+  pub rest_is : rest ≡ drop (at + 3) questions
+  rest_is =
+      sym (drop-append_seam question rest) ∙ ap₂ (λ (n : ℕ) (xs : List ℕ). drop n xs) l (sym e) ∙ drop-drop 3 at questions
 
--- a refusal's number is not 0
-pub not_good : (f : Refusal) (code : ℕ) → code ≡ refusal_number f → 0 ≡ good_one (refused code)
-not_good f code e = ap bit (sym (ne_eqb code 0 (λ z. omega (arith, refusal_some f))))
+  word_is : (k : ℕ) → k < 3 → get_or question k 0 ≡ get_or questions (at + k) 0
+  word_is k h =
+      sym (get_or-append question rest 0 k (omega arith)) ∙ ap (λ (xs : List ℕ). get_or xs k 0) (sym e) ∙ get_or-drop at questions k 0
+
+  pub question_is : (image : List ℕ) → reply_at image question 0 ≡ reply_at image questions at
+  question_is image =
+      let first : get_or question 0 0 ≡ get_or questions at 0 = rw add-zero at (word_is 0 (lit< tt)) in
+      rw (first, word_is 1 (lit< tt), word_is 2 (lit< tt))
 
 -- the first i of the answers rs stand over `old`, which gives `out`; g of them have code 0
 pub record Answered (rs : List Reply) (old out : List ℕ) (g i : ℕ) : Type 0 where
@@ -66,9 +69,6 @@ pub record Answered (rs : List Reply) (old out : List ℕ) (g i : ℕ) : Type 0 
 module _ {rs : List Reply} {old out : List ℕ} {g i : ℕ} (a : Answered rs old out g i) where
   front : length (answer_words (take i rs)) ≡ 3 * i
   front = length_words (take i rs) ∙ ap (λ (k : ℕ). 3 * k) (length-take-le i rs a.upto)
-
-  pub answered_length : length out ≡ length old
-  answered_length = ap length a.are ∙ length_over (answer_words (take i rs)) old (omega (arith, front, a.room, a.upto))
 
   pub answered_few : g ≤ i
   answered_few = omega (arith, a.goods, good_le (take i rs), length-take-le i rs a.upto)
@@ -105,27 +105,19 @@ module _ (image questions : List ℕ) (threes : length questions % 3 ≡ 0) wher
   pub found_few : (k : ℕ) → k ≡ good (replies image questions) → k ≤ length questions / 3
   found_few k e = omega (arith, e, good_le (replies image questions), replies_length)
 
-pub tally_is : (t : Tally) (q k asked answered refused : ℕ) → asked ≡ t.asked + q → answered ≡ t.answered + k → refused ≡ t.refused + (q - k)
-    → record { asked = asked; answered = answered; refused = refused } ≡ counted t q k
-tally_is t q k asked answered refused ea eb ec = λ i. record { asked = ea i; answered = eb i; refused = ec i }
-
 -- ---- the outcome
 
 module _ (image questions buffer : List ℕ) (t : Tally) (threes : length questions % 3 ≡ 0) (room : length questions ≤ length buffer)
     (tally : TallyRoom t (length questions / 3)) where
-  pub run_refused : (f : Refusal) → check_image image ≡ refusal_number f → batch_outcome image questions buffer t ≡ batch_leaves (asked.Refused f) buffer t
+  pub run_refused : (f : Refusal) → check_image image ≡ refusal_number f → batch_outcome image questions buffer t ≡ batch_leaves (Err f) buffer t
   run_refused f h =
       let e : refusal_number f ≡ suc (refusal_number f - 1) = omega (arith, refusal_some f) in
       batch_improper image questions buffer t threes room tally (refusal_number f - 1) (h ∙ e)
       ∙ ap {B = BatchOutcome} (λ (x : ℕ). record { code = x; words = buffer; tally = t }) (sym e)
 
   pub run_whole : check_image image ≡ 0 → (k : ℕ) → k ≡ good (replies image questions) → (put : List ℕ) → put ≡ over (answer_words (replies image questions)) buffer
-      → (after : Tally) → after ≡ counted t (length questions / 3) k → batch_outcome image questions buffer t ≡ batch_leaves asked.Ran put after
+      → (after : Tally) → after ≡ counted t (length questions / 3) k → batch_outcome image questions buffer t ≡ batch_leaves (Ok tt) put after
   run_whole h k ek put ep after ea =
       batch_ran_lem image questions buffer t (runs_batch image questions buffer t (record { threes = threes; buffer_room = room; tally_room = tally; proper = h }))
       ∙ (λ i. record { code = 0; words = sym ep i; tally = counted t (replies_length image questions threes i) (sym ek i) })
       ∙ (λ i. record { code = 0; words = put; tally = sym ea i })
-
-pub as_number : {o : BatchOutcome} (a : Asked) {words : List ℕ} {after : Tally} {k : ℕ} → o ≡ batch_leaves a words after → asked_number a ≡ k
-    → o ≡ record { code = k; words = words; tally = after }
-as_number a {words} {after} e told = e ∙ (λ i. record { code = told i; words = words; tally = after })

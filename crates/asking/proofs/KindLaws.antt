@@ -3,8 +3,10 @@ use Prim.Native.Nat.{ℕ, zero, suc, ◌+◌, ◌-◌, ◌≤◌, ◌<◌}
 use native.Mathlib.Omega.{arith}
 use native.Mathlib.Decide.{dec_le}
 use native.Mathlib.Numerals.{add-one}
-use mathlib.Core.Path.{◌≡◌, sym, ap, ◌∙◌}
+use mathlib.Core.Path.{◌≡◌, refl, sym, ap, ◌∙◌}
 use mathlib.Core.Option.{Option, none, some, none-ne-some}
+use Rattle.std.specs.Prelude.{Option as Maybe, Some, None, IsSome}
+use Rattle.format.specs.Answers.{found_place}
 use mathlib.Core.List.{List}
 use lib.Dec.{eqb, ltb}
 use lib.ListN.{length, get_or}
@@ -31,9 +33,6 @@ use Rattle.asking.specs.Nodes.{NodeIn}
 -- ---- what a layout says
 
 module _ {b : List ℕ} {lay : Layout} (L : Laid b lay) where
-  pub right : ProperTrits (trits_of b) (shadows_of b)
-  right = proper L.whole
-
   pub nodes_is : lay.nodes ≡ node_count (trits_of b)
   unfolding layout_of
   nodes_is = rw L.is
@@ -55,9 +54,13 @@ select_value a trits b h e = rw (le-leb a 2 h, ← e)
 -- ---- places
 
 -- a number up to the count has its place
-pub never_nothing : (t : ℕ) (xs : List ℕ) (j : ℕ) → 0 < j → j ≤ count_in t xs → none ≡ select t xs j → ⊥
+never_nothing : (t : ℕ) (xs : List ℕ) (j : ℕ) → 0 < j → j ≤ count_in t xs → none ≡ select t xs j → ⊥
 never_nothing t xs zero h l e = absurd (omega arith)
 never_nothing t xs (suc j) h l e = none-ne-some _ (e ∙ select_found t xs j l)
+
+pub found_there : (t : ℕ) (xs : List ℕ) (j : ℕ) → 0 < j → j ≤ count_in t xs → (r : Maybe ℕ) → found_place r ≡ select t xs j → IsSome r
+found_there t xs j h l None e = absurd (never_nothing t xs j h l e)
+found_there t xs j h l (Some p) e = refl
 
 selected_nth : {t : ℕ} {xs : List ℕ} {j p : ℕ} → Selected t xs j p → p ≡ nth t xs j
 unfolding nth
@@ -144,7 +147,7 @@ module _ {image : List ℕ} {lay : Layout} {a : ℕ} (n : NodeIn image lay a) wh
   H = shadows_of image
 
   abbrev p : ProperTrits trits H
-  p = right n.laid
+  p = proper n.laid.whole
 
   abbrev low : 1 ≤ a
   low = n.low

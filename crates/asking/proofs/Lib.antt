@@ -1,5 +1,5 @@
--- The laws of this crate's functions, by subject.
+-- The laws of this crate, by subject.
 pub mod EntryLaws
-pub mod MarkedLaws
 pub mod KindLaws
+pub mod MarkedLaws
 pub mod BatchTurns

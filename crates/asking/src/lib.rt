@@ -3,4 +3,5 @@
 
 pub mod batch;
 pub mod index;
+pub mod kind;
 pub mod question;
