@@ -2,10 +2,11 @@
 use Prim.Native.Nat.{ℕ, zero, suc, ◌+◌, ◌-◌, ◌≤◌}
 use native.Mathlib.Omega.{arith}
 use mathlib.Core.Path.{◌≡◌, refl, sym, ap, ◌∙◌}
+use mathlib.Core.Bool.{Bool, true, false}
 use mathlib.Core.Option.{Option, some}
 use mathlib.Core.List.{List, [], ◌∷◌, ◌++◌, map, append_assoc, append-nil}
 use lib.ListN.{length, get_elem?}
-use borrow.Author.Tests.{eq-eqb, ne_eqb}
+use lib.Dec.{eqb}
 use Rattle.format.specs.Lists.{run, one_to, join, numbered}
 use Rattle.format.specs.Image.{node_count, edge_count}
 use Rattle.format.specs.Proper.{trits_of, shadows_of}
@@ -29,13 +30,14 @@ pub begin_neighbour : (r : Reply) {v : ℕ} {words : List ℕ} {at : ℕ} → v 
 unfolding neighbour_text
 begin_neighbour r {v} e room = begin (field (text " ") v ∷ star r.sort ∷ []) (rw (e, append-nil)) room
 
-module _ {was : List ℕ} {at : ℕ} {whole now : List ℕ} {end s k : ℕ} (e : k ≡ s) (l : Left was at whole now end (star s ∷ [])) where
-  pub shadow_left : k ≡ 2 → Left was at whole now end (text "*" ∷ [])
-  shadow_left h = rw (eq-eqb s 2 (sym e ∙ h)) at l
+-- a star is left where the neighbour is a shadow, and else nothing
+module _ {was : List ℕ} {at : ℕ} {whole now : List ℕ} {end : ℕ} (s : ℕ) {shadow : Bool} (e : shadow ≡ eqb s 2) (l : Left was at whole now end (star s ∷ [])) where
+  pub shadow_left : shadow ≡ true → Left was at whole now end (text "*" ∷ [])
+  shadow_left h = rw (sym e ∙ h) at l
 
-  pub real_left : (k ≡ 2 → ⊥) → Left was at whole now end []
+  pub real_left : shadow ≡ false → Left was at whole now end []
   real_left h =
-      let m : Left was at whole now end ([] ∷ []) = rw (ne_eqb s 2 (λ z. h (e ∙ z))) at l in
+      let m : Left was at whole now end ([] ∷ []) = rw (sym e ∙ h) at l in
       record { done = m.done; is = m.is; room = m.room; wrote = m.wrote }
 
 -- ---- the neighbours of a node

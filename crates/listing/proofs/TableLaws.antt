@@ -3,9 +3,10 @@ use Prim.Native.Nat.{ℕ, ◌+◌, ◌*◌, ◌/◌, ◌%◌, ◌≤◌, ◌<◌
 use native.Mathlib.Nat.{zero-add}
 use native.Mathlib.Omega.{arith}
 use mathlib.Core.Path.{◌≡◌, refl, sym, ap, ◌∙◌, subst}
-use mathlib.Core.Bool.{Bool, true, false, cond}
+use mathlib.Core.Bool.{Bool, true, false, ◌&&◌, cond}
 use mathlib.Core.List.{List, ◌++◌}
-use lib.Dec.{T}
+use lib.Dec.{T, eqb, leb}
+use borrow.Author.Tests.{eqb-true, leb-true}
 use lib.ListN.{length, get_or, take, drop, length-append}
 use lib.Seq.{take-append_seam}
 use Rattle.format.specs.Lists.{one_to, over}
@@ -17,7 +18,7 @@ use Rattle.format.specs.Answers.{refusal_number}
 use Rattle.format.specs.Packing.{image_of, Accepted, PackOutcome, pack_outcome, pack_leaves}
 use Rattle.format.specs.Listing.{listing, refusal, table_text, listing_text, ListingOutcome, listing_outcome, listing_leaves}
 use Rattle.format.specs.declared.Refusal.{Refusal}
-use Rattle.format.specs.declared.Packed.TheVariants as packed
+use Rattle.std.specs.Prelude.{Ok, Err}
 use Rattle.format.proofs.Digits.{length_gather, gather_at}
 use Rattle.format.proofs.Outcomes.{length_words, pack_faulty, pack_8, pack_room, pack_accepted, true_of}
 use Rattle.format.proofs.OneToOne.{refusal_some}
@@ -26,7 +27,7 @@ use Rattle.format.proofs.CheckLaws.{shadow_nodes}
 use Rattle.format.proofs.Accepting.{packable, proper_table}
 use Rattle.format.proofs.Order.{counts}
 use Rattle.format.proofs.Sizes.{image_length, length_image}
-use Rattle.format.proofs.Laws.{length_keep, length_run}
+use Rattle.format.proofs.Laws.{both_true, length_keep, length_run}
 use Rattle.format.proofs.Listed.{text_few}
 use Rattle.format.proofs.Promises.{checker_passes, trits_back}
 use Rattle.listing.specs.Wrote.{Room, Wrote}
@@ -41,6 +42,17 @@ module _ (input : List ℕ) (even : length input % 2 ≡ 0) where
   pub word_at_lem : (i : ℕ) → i < length input / 2 → read 2 (2 * i) input ≡ get_or (from_bytes 2 input) i 0
   unfolding from_bytes
   word_at_lem i h = sym (gather_at 256 2 input i (omega arith))
+
+-- the bytes are whole words, and not too many; if not, 61
+module _ (input : List ℕ) {fits : Bool} (e : fits ≡ (eqb (length input % 2) 0 && leb (length input) 8000)) where
+  pub fitting : fits ≡ true → (length input % 2 ≡ 0) × (length input ≤ 8000)
+  fitting h =
+      let b = both_true (eqb (length input % 2) 0) (leb (length input) 8000) (sym e ∙ h) in
+      (eqb-true (length input % 2) 0 b.0, leb-true (length input) 8000 b.1)
+
+  pub text_wrong : fits ≡ false → listing_text input ≡ refusal 61
+  unfolding listing_text
+  text_wrong h = rw (sym e ∙ h)
 
 -- what was written over the front of a buffer
 pub front_is : (xs old : List ℕ) {k : ℕ} {l : List ℕ} → k ≡ length xs → l ≡ over xs old → take k l ≡ xs
@@ -73,7 +85,7 @@ module _ (table : List ℕ) (few : length table ≤ 4000) where
       )
 
   module _ (order work buffer : List ℕ) (order_room : 4000 ≤ length order) (work_room : 12000 ≤ length work) (image_room : 32768 ≤ length buffer) where
-    pub refused_text : (f : Refusal) {order' work' buffer' : List ℕ} → pack_outcome table order work buffer ≡ pack_leaves (packed.Refused f) order' work' buffer'
+    pub refused_text : (f : Refusal) {order' work' buffer' : List ℕ} → pack_outcome table order work buffer ≡ pack_leaves (Err f) order' work' buffer'
         → refusal (refusal_number f) ≡ table_text (read_table table)
     unfolding table_text
     refused_text f e = go (read_table table) refl
@@ -114,7 +126,7 @@ wrote_image table g a buffer {buffer'} {size} s w =
       }),
     )
 
-pub packs : (table order work buffer : List ℕ) {order' work' buffer' : List ℕ} {size : ℕ} → pack_outcome table order work buffer ≡ pack_leaves (packed.Image size) order' work' buffer'
+pub packs : (table order work buffer : List ℕ) {order' work' buffer' : List ℕ} {size : ℕ} → pack_outcome table order work buffer ≡ pack_leaves (Ok size) order' work' buffer'
     → (size ≤ length buffer') × Packs table (take size buffer')
 packs table order work buffer e =
     let r = pack_room table order work buffer (ap (λ (x : PackOutcome). x.returned.code) e) in

@@ -1,42 +1,19 @@
 -- A text is written word after word: what is left of it is written next. Assumes nothing.
-use Prim.Native.Nat.{ℕ, suc, ◌+◌, ◌-◌, ◌/◌, ◌%◌, ◌≤◌, ◌<◌, zero-le}
+use Prim.Native.Nat.{ℕ, suc, ◌+◌, ◌-◌, ◌/◌, ◌%◌, ◌≤◌, ◌<◌}
 use native.Mathlib.Nat.{add-zero, sub-zero}
 use native.Mathlib.Numerals.{add-one}
 use native.Mathlib.Omega.{arith}
 use mathlib.Core.Path.{◌≡◌, sym, ap, ◌∙◌}
 use mathlib.Core.Bool.{Bool, true, false}
 use mathlib.Core.List.{List, [], ◌∷◌, ◌++◌, map, append_assoc, append-nil}
-use lib.ListN.{length, get_or, take, drop, set, length-append}
-use lib.Seq.{take_all, paste, paste-zero, paste-suc, length-paste}
+use lib.ListN.{length, length-append}
+use lib.Seq.{paste-zero}
 use lib.Dec.{ltb}
 use borrow.Author.Tests.{lt-ltb, le-ltb}
 use Rattle.format.specs.Lists.{run, one_to, join}
 use Rattle.format.specs.Listing.{text, decimal_in, newline, refusal}
 use Rattle.little.proofs.Laws.{put_more, length_put}
 use Rattle.listing.specs.Wrote.{Room, Wrote, field}
-
--- ---- a word, byte after byte
-
--- its first i bytes are copied
-pub record Copied (was : List ℕ) (at : ℕ) (word now : List ℕ) (i : ℕ) : Type 0 where
-  pub room : Room was at word
-  pub upto : i ≤ length word
-  pub are : now ≡ paste was at word i
-
-pub copied_none : {text : List ℕ} {at : ℕ} {word : List ℕ} → Room text at word → Copied text at word text 0
-copied_none {text} {at} {word} r = record { room = r; upto = zero-le; are = paste-zero text at word }
-
-module _ {was : List ℕ} {at : ℕ} {word now : List ℕ} {i : ℕ} (c : Copied was at word now i) where
-  pub copied_length : length now ≡ length was
-  copied_length = ap length c.are ∙ length-paste was at word i (omega (arith, c.room.fits, c.upto)) c.upto
-
-  pub copied_next : i < length word → Copied was at word (set now (at + i) (get_or word i 0)) (i + 1)
-  copied_next h = record { room = c.room; upto = omega arith; are = rw (c.are, add-one) (paste-suc was at word i 0 (omega (arith, c.room.fits)) h) }
-
-  pub copied_all : length word ≤ i → Wrote was at word (at + i) now
-  copied_all h =
-      let e : i ≡ length word = omega (arith, c.upto) in
-      record { ends = ap (λ (k : ℕ). at + k) e; are = c.are ∙ rw e (ap (λ (l : List ℕ). take at was ++ l ++ drop (at + length word) was) (take_all (length word) word (omega arith))) }
 
 -- ---- words
 
@@ -127,8 +104,9 @@ module _ {text : List ℕ} {at : ℕ} (d x : ℕ) (r : Room text at (decimal_in 
   by : (k : ℕ) (b : Bool) → d ≡ suc k → ltb x 10 ≡ b → decimal_in d x ≡ elim b [ true ↦ (48 + x) ∷ [] | false ↦ decimal_in k (x / 10) ++ ((48 + x % 10) ∷ []) ]
   by k b e t = rw (e, ← t)
 
-  pub digits_one : (d ≡ 0 → ⊥) → x < 10 → Left text at (decimal_in d x) text at (((48 + x) ∷ []) ∷ [])
-  digits_one some h = begin _ (by (d - 1) true (omega arith) (lt-ltb x 10 h)) r
+  pub digits_one : (d ≡ 0 → ⊥) → x < 10 → Left text at (decimal_in d x) text at (((48 + x % 10) ∷ []) ∷ [])
+  digits_one some h =
+      let e : x % 10 ≡ x = omega arith in begin _ (by (d - 1) true (omega arith) (lt-ltb x 10 h) ∙ ap (λ (k : ℕ). (48 + k) ∷ []) (sym e)) r
 
   pub digits_more : (d ≡ 0 → ⊥) → 10 ≤ x → Left text at (decimal_in d x) text at (decimal_in (d - 1) (x / 10) ∷ ((48 + x % 10) ∷ []) ∷ [])
   digits_more some h = begin _ (by (d - 1) false (omega arith) (le-ltb x 10 h)) r

@@ -1,18 +1,9 @@
 -- The neighbours of a node, as questions about the image give them. Assumes nothing.
-use Rattle.std.specs.Prelude.{ℕ, ◌+◌, ◌≡◌, cond, List, [], ◌++◌, map, eqb}
+use Rattle.std.specs.Prelude.{ℕ, ◌+◌, cond, List, [], ◌++◌, map, eqb}
 use Rattle.format.specs.Lists.{one_to, join}
-use Rattle.format.specs.Trits.{tryte_table}
-use Rattle.format.specs.Proper.{check_image, trits_of, shadows_of}
+use Rattle.format.specs.Proper.{trits_of, shadows_of}
 use Rattle.format.specs.Question.{Reply, answer}
 use Rattle.format.specs.Listing.{text, decimal}
-use Rattle.trits.specs.declared.Layout.{Layout}
-use Rattle.trits.specs.Layout.{layout_of}
-
--- a proper image, the table of trytes, and the image's layout
-pub record Asking (image table : List ℕ) (lay : Layout) : Type 0 where
-  pub proper : check_image image ≡ 0
-  pub trytes : table ≡ tryte_table
-  pub laid : lay ≡ layout_of image
 
 -- a neighbour after a space; a star marks sort 2
 abbrev pub star : ℕ → List ℕ

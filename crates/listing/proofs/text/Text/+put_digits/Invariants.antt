@@ -1,5 +1,5 @@
 -- The measure is the number of digits that it may still put. Assumes nothing.
-use Rattle.listing.proofs.text.+put_digits.Given as goal
+use Rattle.listing.proofs.text.Text.+put_digits.Given as goal
 
 abbrev pub decreases-put_digits : goal.decreases-put_digits
 decreases-put_digits l = l.most
