@@ -7,7 +7,8 @@ ghost use Rattle.std.specs.Io.KnownBytes.{Consumes, IsAtEnd};
 use std::io;
 use std::io::{Read, Write};
 
-// Reads until the buffer is full or the input ends, and answers how many bytes came: they stand at the buffer's front.
+// Reads until the buffer is full or the input ends, and answers how many bytes came: they stand at the buffer's front. A read may bring fewer bytes
+// than are asked for, so no range says the turns.
 fn read_full<R: Read>(input: &mut R, buffer: &mut [u8]) -> io::Result<usize>
     ensures bound { IfOk result (λ n. n ≤ length buffer.new) }
     ensures bytes { IfOk result (λ n. Consumes (R.remaining input.old) (R.remaining input.new) (take n buffer.new)) }
