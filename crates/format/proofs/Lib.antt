@@ -1,12 +1,13 @@
 -- The laws of the definitions, for this crate's code and for other crates to cite.
 
--- tools: lists, rank; digits; select; places, permutations; a list written over a buffer
+-- tools: lists, rank; digits; select; places, permutations; a list written over a buffer; the exit of a `?`
 pub mod Laws
 pub mod FaultLaws
 pub mod Digits
 pub mod Select
 pub mod Places
 pub mod Over
+pub mod Handed
 -- table and walk: reading words; the walk, its order, what it reaches; the graph that trits and shadows give back; the rules by one scan
 pub mod Reading
 pub mod TableFaults
@@ -35,7 +36,7 @@ pub mod Lookups
 pub mod OnImage
 pub mod Neighbours
 pub mod BatchLaws
--- accepted tables and proper images; outcomes; enums and numbers
+-- accepted tables and proper images; outcomes; enums and numbers; what a `?` hands on
 pub mod Accepting
 pub mod Outcomes
 pub mod Replies

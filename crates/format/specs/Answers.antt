@@ -1,6 +1,7 @@
 -- Document 01: "For every answer that is an enum, a definition states this paper's number and values for each of the enum's cases, and the
 -- promises use that definition." Assumes nothing.
-use Rattle.std.specs.Prelude.{ℕ, ◌≤◌, ◌≡◌, ◌⊎◌, Result, Ok, Err, Option as Maybe, Some, None}
+use Rattle.std.specs.Prelude.{ℕ, ◌≤◌, ◌≡◌, ◌⊎◌, List, ◌++◌, codes, Result, Ok, Err, Option as Maybe, Some, None}
+use Rattle.std.specs.Fmt.{decimal}
 use Rattle.std.proofs.Math.Option.{Option, none, some}
 use Rattle.format.specs.Question.{Reply, refused, plain}
 use Rattle.format.specs.declared.Refusal.{Refusal}
@@ -35,6 +36,10 @@ refusal_number AnswersTooShort = 42
 refusal_number TallyFull = 43
 refusal_number TableTooShort = 51
 refusal_number InputWrong = 61
+
+-- a refusal as the programs say it: a word, and its number in decimal
+abbrev pub refusal_text : Refusal → List ℕ
+refusal_text r = codes "refused " ++ decimal (refusal_number r)
 
 -- what an entry returns: a refusal's number and 0, or 0 and a length
 pub record Numbers : Type 0 where
