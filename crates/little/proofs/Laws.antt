@@ -1,57 +1,51 @@
--- A number of a + b bytes is one of a and one of b, read and written, so one law serves every width; what is put behind or over what was put is one
--- put. Assumes nothing.
-use Prim.Native.Nat.{ℕ, zero, suc, ◌+◌, ◌-◌, ◌*◌, ◌/◌, ◌%◌, ◌^◌, ◌≤◌, ◌<◌}
-use native.Mathlib.Nat.{zero-add, suc-add, add_assoc, mul-add, mul_assoc, div-one, one-mul, pow-zero, pow-succ', pow-suc, pow-le-pow_right, div-div-eq-div-mul}
-use native.Mathlib.Numerals.{add-one, one-add}
+-- A number is read from its last byte on and written from its first on, so one law serves every width; what is put behind or over what was put is
+-- one put. Assumes nothing.
+use Prim.Native.Nat.{ℕ, zero, suc, ◌+◌, ◌*◌, ◌/◌, ◌%◌, ◌^◌, ◌≤◌, ◌<◌}
+use native.Mathlib.Nat.{zero-add, suc-add, add_assoc, div-one, pow-zero, pow-succ', pow-suc, div-div-eq-div-mul}
+use native.Mathlib.Numerals.{add-one}
 use native.Mathlib.Omega.{arith}
-use mathlib.Core.Path.{◌≡◌, refl, sym, ◌∙◌}
+use mathlib.Core.Path.{◌≡◌, refl, sym, ap, ◌∙◌}
 use mathlib.Core.List.{List, [], ◌∷◌, ◌++◌, append-nil, append_assoc, map-append}
 use lib.Dec.{lit<}
 use lib.ListN.{length, get_or, take, drop, set, length-drop, length-take, length-append, length-set, take-append-drop}
-use lib.Seq.{take-add, drop-drop, drop-cons, drop_at, append_snoc, set_split, length-take-le, take-append-le, drop-append-le, take-append_seam, drop-append-add}
-use Rattle.format.specs.Lists.{horner, low_digits, spread}
+use Rattle.std.proofs.lemmas.List.{drop_all, nil_from_length}
+use lib.Seq.{drop-drop, drop-cons, drop_at, append_snoc, set_split, length-take-le, take-append-le, drop-append-le, take-append_seam, drop-append-add}
+use Rattle.format.specs.Lists.{horner, low_digits, spread, Below}
 use Rattle.format.specs.Image.{le_bytes, bytes, read}
 use Rattle.format.proofs.Laws.{join_append}
-use Rattle.format.proofs.Digits.{length_digits}
+use Rattle.format.proofs.Digits.{length_digits, horner_lt, below_take, below_drop}
 use Rattle.format.proofs.Sizes.{length_bytes}
 use Rattle.format.proofs.ImageReads.{number_at}
 use Rattle.little.specs.Put.{put_at}
 
 -- ---- reading
 
-horner_append : (b : ℕ) (xs ys : List ℕ) → horner b (xs ++ ys) ≡ horner b xs + b ^ length xs * horner b ys
-horner_append b [] ys = rw (pow-zero, one-mul, zero-add)
-horner_append b (x ∷ xs) ys = simp (horner_append b xs ys, pow-succ', mul-add, mul_assoc) (omega arith)
+-- the bytes `left` are still to read, and those behind them make the number so far
+pub record Reading (all left : List ℕ) (n : ℕ) : Type 0 where
+  pub behind : List ℕ
+  pub split : all ≡ left ++ behind
+  pub is : n ≡ horner 256 behind
 
--- a number of a + b bytes: its low a, and above them its high b
-pub read_add : (a b at : ℕ) (s : List ℕ) → at + a ≤ length s → read (a + b) at s ≡ read a at s + 256 ^ a * read b (at + a) s
-read_add a b at s h =
-    let l : length (take a (drop at s)) ≡ a = length-take-le a (drop at s) (omega (arith, length-drop at s)) in
-    rw (take-add, horner_append, l, drop-drop)
+module _ {all left : List ℕ} {n : ℕ} (r : Reading all left n) where
+  pub reading_more : (fewer : List ℕ) (byte : ℕ) → left ≡ fewer ++ (byte ∷ []) → Reading all fewer (256 * n + byte)
+  reading_more fewer byte e = record { behind = byte ∷ r.behind; split = r.split ∙ rw (e, append_snoc); is = rw r.is (omega arith) }
 
--- the bytes of a number from place i of them on
-pub record Read (width at i n : ℕ) (s : List ℕ) : Type 0 where
-  pub is : n ≡ read (width - i) (at + i) s
-  pub fits : n < 256 ^ (width - i)
+  pub reading_below : (w : ℕ) → Below 256 all → length all ≤ w → n < 256 ^ w
+  reading_below w low few =
+      let whole : Below 256 (left ++ r.behind) = rw r.split at low in
+      let part : Below 256 r.behind = rw (drop_at left r.behind (length left) refl) at (below_drop 256 (length left) (left ++ r.behind) whole) in
+      rw r.is (horner_lt 256 w r.behind (lit< tt) part (omega (arith, few, ap length r.split, length-append left r.behind)))
 
-module _ {width at i n : ℕ} {s : List ℕ} (r : Read width at i n s) where
-  pub read_more : {byte : ℕ} → 0 < i → i ≤ width → at + width ≤ length s → byte ≡ get_or s (at + (i - 1)) 0 → byte < 256 → Read width at (i - 1) (256 * n + byte) s
-  read_more {byte} l h inside e low =
-      let j : ℕ = i - 1 in
-      let k : width - j ≡ 1 + (width - i) = omega arith in
-      let one : read 1 (at + j) s ≡ byte = rw (drop-cons s (at + j) 0 (omega arith), e) (omega arith) in
-      let seam : (at + j) + 1 ≡ at + i = omega arith in
-      record {
-        is = rw (k, read_add 1 (width - i) (at + j) s (omega arith), one, seam, ← r.is) (omega arith);
-        fits = rw (k, one-add, pow-succ' 256 (width - i)) (omega (arith, r.fits));
-      }
-
-  pub read_below : width ≤ 8 → n < 2 ^ 64
-  read_below h = omega (arith, r.fits, pow-le-pow_right {n = 256} (lit< tt) {i = width - i} {j = 8} (omega arith))
+  pub reading_all : length left ≡ 0 → n ≡ horner 256 all
+  reading_all e = rw (r.is, r.split, nil_from_length left e)
 
 -- entry i of a section whose contents start at `at`
 pub entry : (w at i : ℕ) (s xs rest : List ℕ) → drop at s ≡ bytes w xs ++ rest → i < length xs → get_or xs i 0 < 256 ^ w → read w (at + w * i) s ≡ get_or xs i 0
 entry w at i s xs rest e h fits = rw (← drop-drop, e) (number_at w xs rest i h fits)
+
+-- the bytes of a slice from place `at` on are low
+pub bytes_low : (w at : ℕ) (s : List ℕ) → ((i : ℕ) → get_or s i 0 < 256) → Below 256 (take w (drop at s))
+bytes_low w at s low = below_take 256 w (drop at s) (below_drop 256 at s (λ i l. low i))
 
 -- ---- writing
 
@@ -79,17 +73,25 @@ put_add a b at n l h e e' = rw digits_add (put_more at (at + a) l (le_bytes a n)
 put_byte : (l : List ℕ) (i x : ℕ) → i < length l → set l i x ≡ put_at l i (x ∷ [])
 put_byte l i x h = set_split l i x h ∙ simp (append_snoc, add-one)
 
--- the bytes of a number before byte i are put, and what is left of it
-pub record Puts (at n : ℕ) (old : List ℕ) (i rest : ℕ) (new : List ℕ) : Type 0 where
+-- the bytes of a number before byte i are put over the first of a list, and what is left of the number
+pub record Puts (n : ℕ) (old : List ℕ) (i rest : ℕ) (new : List ℕ) : Type 0 where
   pub left : rest ≡ n / 256 ^ i
-  pub is : new ≡ put_at old at (le_bytes i n)
+  pub is : new ≡ put_at old 0 (le_bytes i n)
 
-module _ {at n : ℕ} {old : List ℕ} {i rest : ℕ} {new : List ℕ} (p : Puts at n old i rest new) where
-  pub put_more_byte : at + i < length old → at + i < length new → Puts at n old (i + 1) (rest / 256) (set new (at + i) (rest % 256))
+module _ {n : ℕ} {old : List ℕ} {i rest : ℕ} {new : List ℕ} (p : Puts n old i rest new) where
+  pub put_more_byte : i < length old → i < length new → Puts n old (i + 1) (rest / 256) (set new i (rest % 256))
   put_more_byte old_room room = record {
     left = rw (p.left, div-div-eq-div-mul, add-one, pow-suc);
-    is = put_add i 1 at n old (omega arith) p.is (put_byte new (at + i) (rest % 256) room ∙ rw p.left);
+    is = put_add i 1 0 n old (omega arith) p.is (rw zero-add (put_byte new i (rest % 256) room ∙ rw p.left));
   }
+
+-- at the end the part of a list from `at` on is those bytes
+pub puts_all : (at w : ℕ) (l : List ℕ) {n k i rest : ℕ} {new : List ℕ} → Puts n (take k (drop at l)) i rest new → at + w ≤ length l → k ≡ w → i ≡ w
+    → take at l ++ (new ++ drop k (drop at l)) ≡ put_at l at (le_bytes w n)
+puts_all at w l {n} {k} {i} {rest} {new} p h ek ei =
+    let gone : drop w (take w (drop at l)) ≡ [] = drop_all w (take w (drop at l)) (omega (arith, length-take w (drop at l))) in
+    let e : new ≡ le_bytes w n = (rw (ei, ek) at p.is) ∙ rw (zero-add, length_digits, gone, append-nil) in
+    rw (e, ek, drop-drop, length_digits, append_assoc)
 
 -- one number more of a section that is being written behind `front`
 pub put_next : (w x at : ℕ) (l front done rest : List ℕ) → l ≡ front ++ bytes w done ++ rest → at ≡ length front + w * length done

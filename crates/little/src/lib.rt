@@ -12,8 +12,8 @@ pub fn get<const N: usize>(s: &[u8], at: usize) -> usize
     ensures { (result ≡ read N at s.now) × (result < 256 ^ N) }
 {
     let mut n = 0;
-    for i in (0..N).rev() {
-        n = 256 * n + usize::from(s[at + i]);
+    for byte in s[at..at + N].iter().rev() {
+        n = 256 * n + usize::from(*byte);
     }
     n
 }
@@ -24,8 +24,8 @@ pub fn put<const N: usize>(s: &mut [u8], at: usize, n: usize)
     ensures { s.new ≡ put_at s.old at (le_bytes N n) }
 {
     let mut rest = n;
-    for i in 0..N {
-        s[at + i] = (rest % 256) as u8;
+    for byte in &mut s[at..at + N] {
+        *byte = (rest % 256) as u8;
         rest /= 256;
     }
 }
