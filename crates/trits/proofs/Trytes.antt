@@ -67,16 +67,33 @@ every_from f n e i l = ap f (sym (zero-add i)) ∙ every_run f 0 n e i l
 -- a tryte cut behind its first r trits: the others count as zeros. Computed once over all trytes.
 cut_right : ℕ → Bool
 unfolding tryte_count
-cut_right x = every (λ r. eqb (get_or tryte_table (x % 3 ^ r) 0) (tryte_count 0 x r + (5 - r) + 8 * tryte_count 1 x r)) (run 0 5)
+cut_right x = every (λ r. eqb (tryte_count 0 (x % 3 ^ r) 5) (tryte_count 0 x r + (5 - r)) && eqb (tryte_count 1 (x % 3 ^ r) 5) (tryte_count 1 x r)) (run 0 5)
 
 all_cut : every cut_right (run 0 243) ≡ true
 unfolding cut_right
 all_cut = refl
 
-pub cut_entry : (x r : ℕ) → x < 243 → r < 5 → get_or tryte_table (x % 3 ^ r) 0 ≡ tryte_count 0 x r + (5 - r) + 8 * tryte_count 1 x r
+pub cut_counts : (x r : ℕ) → x < 243 → r < 5 → (tryte_count 0 (x % 3 ^ r) 5 ≡ tryte_count 0 x r + (5 - r)) × (tryte_count 1 (x % 3 ^ r) 5 ≡ tryte_count 1 x r)
 unfolding cut_right
+cut_counts x r h l =
+    let both =
+    both_true (eqb (tryte_count 0 (x % 3 ^ r) 5) (tryte_count 0 x r + (5 - r))) _
+    (every_from (λ r. eqb (tryte_count 0 (x % 3 ^ r) 5) (tryte_count 0 x r + (5 - r)) && eqb (tryte_count 1 (x % 3 ^ r) 5) (tryte_count 1 x r)) 5 (every_from cut_right 243 all_cut x h) r l) in
+    (eqb-true _ _ both.0, eqb-true _ _ both.1)
+
+-- the same of the table's entry
+cut_entry_right : ℕ → Bool
+unfolding tryte_count
+cut_entry_right x = every (λ r. eqb (get_or tryte_table (x % 3 ^ r) 0) (tryte_count 0 x r + (5 - r) + 8 * tryte_count 1 x r)) (run 0 5)
+
+all_cut_entries : every cut_entry_right (run 0 243) ≡ true
+unfolding cut_entry_right
+all_cut_entries = refl
+
+pub cut_entry : (x r : ℕ) → x < 243 → r < 5 → get_or tryte_table (x % 3 ^ r) 0 ≡ tryte_count 0 x r + (5 - r) + 8 * tryte_count 1 x r
+unfolding cut_entry_right
 cut_entry x r h l =
-    eqb-true _ _ (every_from (λ r. eqb (get_or tryte_table (x % 3 ^ r) 0) (tryte_count 0 x r + (5 - r) + 8 * tryte_count 1 x r)) 5 (every_from cut_right 243 all_cut x h) r l)
+    eqb-true _ _ (every_from (λ r. eqb (get_or tryte_table (x % 3 ^ r) 0) (tryte_count 0 x r + (5 - r) + 8 * tryte_count 1 x r)) 5 (every_from cut_entry_right 243 all_cut_entries x h) r l)
 
 -- the product is the quotient, for every byte
 rest_right : ℕ → Bool

@@ -3,7 +3,7 @@ use Rattle.std.specs.Prelude.{ℕ, ◌+◌, ◌/◌, ◌≡◌, List, length}
 use Rattle.format.specs.Image.{node_count, root_count, marked_nodes, before, sizes}
 use Rattle.format.specs.Proper.{trits_of, shadows_of, Whole}
 use Rattle.trits.specs.declared.Layout.{Layout}
-use Rattle.trits.specs.declared.Plan.{Plan}
+use Rattle.trits.specs.declared.plan.Plan.{Plan}
 use Rattle.trits.specs.declared.Samples.{Samples}
 
 -- by L, n, c, k and h: a section's contents start after the sections before it and its own count

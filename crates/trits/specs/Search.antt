@@ -50,3 +50,7 @@ ranks_of xs p = record { zeros = rank 0 xs p; ones = rank 1 xs p }
 -- the zeros and ones of the first r trits of a tryte
 abbrev pub front_of : ℕ → ℕ → Ranks
 front_of x r = record { zeros = tryte_count 0 x r; ones = tryte_count 1 x r }
+
+-- the zeros and the ones of both
+abbrev pub sum_of : Ranks → Ranks → Ranks
+sum_of p q = record { zeros = p.zeros + q.zeros; ones = p.ones + q.ones }

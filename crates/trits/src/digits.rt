@@ -7,7 +7,7 @@ ghost use Rattle.trits.specs.Search.{front_of};
 use crate::Ranks;
 
 // Zeros + 8 · ones of the five trits of every tryte.
-pub static TABLE: [u8; 243] = [
+static TABLE: [u8; 243] = [
     5, 12, 4, 12, 19, 11, 4, 11, 3, 12, 19, 11, 19, 26, 18, 11, 18, 10, 4, 11, 3, 11, 18, 10, 3,
     10, 2, 12, 19, 11, 19, 26, 18, 11, 18, 10, 19, 26, 18, 26, 33, 25, 18, 25, 17, 11, 18, 10, 18,
     25, 17, 10, 17, 9, 4, 11, 3, 11, 18, 10, 3, 10, 2, 11, 18, 10, 18, 25, 17, 10, 17, 9, 3, 10, 2,
@@ -104,9 +104,9 @@ pub fn tryte_front(x: usize, r: usize) -> Ranks
     requires { (x < 243) × (r < 5) }
     ensures { result ≡ front_of x r }
 {
-    let e = usize::from(TABLE[tryte_cut(x, r)]);
+    let cut = tryte_ranks(tryte_cut(x, r));
     Ranks {
-        zeros: e % 8 - (5 - r),
-        ones: e / 8,
+        zeros: cut.zeros - (5 - r),
+        ..cut
     }
 }

@@ -2,12 +2,12 @@
 ghost use Rattle.std.specs.Prelude.{◌≡◌, ◌+◌, ◌*◌, ◌/◌, ◌≤◌, ◌<◌, length, get_or};
 ghost use Rattle.format.specs.Trits.{rank};
 ghost use Rattle.format.specs.Proper.{check_image, trits_of};
-ghost use Rattle.trits.specs.Layout.{layout_of, Laid, samples_of};
-ghost use Rattle.trits.specs.Search.{Sampled, Tryte, ranks_of};
+ghost use Rattle.trits.specs.Layout.{layout_of, Laid, far_of, middle_of, near_of};
+ghost use Rattle.trits.specs.Search.{Tryte, ranks_of};
 
 use crate::digits::{digit, tryte_front, tryte_ranks};
 use crate::level::Level;
-use crate::{Layout, Plan, Ranks, Samples, last_tryte};
+use crate::{Layout, Ranks, last_tryte};
 use format::{FAR, MIDDLE, NEAR};
 
 // The bytes of a proper image, and their layout.
@@ -27,14 +27,33 @@ impl<'a> Image<'a> {
         Image { bytes, lay }
     }
 
-    // The samples of a plan, from byte `at` on.
-    pub fn level(&self, plan: Plan, at: usize) -> Level<'a>
-        requires { Sampled self.now.bytes.now (samples_of plan at self.now.lay.trits) }
-        ensures { (result.bytes.now ≡ self.now.bytes.now) × (result.samples ≡ samples_of plan at self.now.lay.trits) }
+    // Section 6.
+    pub(crate) fn far(&self) -> Level<'a>
+        ensures { (result.bytes.now ≡ self.now.bytes.now) × (result.samples ≡ far_of self.now.lay) }
     {
         Level {
             bytes: self.bytes,
-            samples: Samples::of(plan, at, self.lay.trits),
+            samples: self.lay.far(),
+        }
+    }
+
+    // Section 7.
+    pub(crate) fn middle(&self) -> Level<'a>
+        ensures { (result.bytes.now ≡ self.now.bytes.now) × (result.samples ≡ middle_of self.now.lay) }
+    {
+        Level {
+            bytes: self.bytes,
+            samples: self.lay.middle(),
+        }
+    }
+
+    // Section 8.
+    pub(crate) fn near(&self) -> Level<'a>
+        ensures { (result.bytes.now ≡ self.now.bytes.now) × (result.samples ≡ near_of self.now.lay) }
+    {
+        Level {
+            bytes: self.bytes,
+            samples: self.lay.near(),
         }
     }
 }
@@ -63,12 +82,9 @@ impl Image<'_> {
     {
         let q6 = g / (FAR / NEAR);
         let q7 = g / (MIDDLE / NEAR);
-        let far = self.level(Plan::FAR, self.lay.at6);
-        let middle = self.level(Plan::MIDDLE, self.lay.at7);
-        let near = self.level(Plan::NEAR, self.lay.at8);
-        let six = far.counted(t, 0, q6);
-        let seven = middle.counted(t, FAR / MIDDLE * q6, q7);
-        let eight = near.counted(t, MIDDLE / NEAR * q7, g);
+        let six = self.far().counted(t, 0, q6);
+        let seven = self.middle().counted(t, FAR / MIDDLE * q6, q7);
+        let eight = self.near().counted(t, MIDDLE / NEAR * q7, g);
         six + seven + eight
     }
 
@@ -83,11 +99,10 @@ impl Image<'_> {
         }
         let last = last_tryte(trits, from);
         let mut sum = before;
-        for q in from..last + 1 {
+        for q in from..=last {
             let more = tryte_ranks(self.tryte(q));
             if q < end {
-                sum.zeros += more.zeros;
-                sum.ones += more.ones;
+                sum = sum + more;
             }
         }
         sum
@@ -108,10 +123,7 @@ impl Image<'_> {
             return whole;
         }
         let part = tryte_front(self.tryte(end), r);
-        Ranks {
-            zeros: whole.zeros + part.zeros,
-            ones: whole.ones + part.ones,
-        }
+        whole + part
     }
 
     // Rank of `t` before place `p`, up to L.

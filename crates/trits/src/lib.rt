@@ -1,17 +1,21 @@
 // The layout of a proper image and its three levels of samples; trits, rank and select on it are in `image` and `search`.
-// A tryte is five trits in a byte; a block is 25 trits, five trytes. A trit is a number, 0, 1 or 2, and no enum: it is a digit of its tryte, and
-// the rules count by it and ask for it by number.
+// A tryte is five trits in a byte; a block is 25 trits, five trytes. A trit of an image is a number, 0, 1 or 2, and no enum: it is a digit of its
+// tryte, and the rules count by it and ask for it by number.
 #![tactic(auto)]
 
 pub mod digits;
 pub mod image;
 pub mod level;
+pub mod plan;
 pub mod search;
 
-ghost use Rattle.std.specs.Prelude.{◌≡◌, ◌+◌, ◌*◌, ◌≤◌, ◌<◌};
-ghost use Rattle.trits.specs.Layout.{layout, samples_of};
+ghost use Rattle.std.specs.Prelude.{◌≡◌, ◌+◌, ◌*◌, ◌^◌, ◌≤◌, ◌<◌};
+ghost use Rattle.trits.specs.Layout.{layout, samples_of, far_of, middle_of, near_of};
+ghost use Rattle.trits.specs.Search.{sum_of};
 
 use format::{FAR, MIDDLE, NEAR};
+pub use plan::Plan;
+use std::ops::Add;
 
 // L, n, c, k and h, and where the contents of each section start.
 #[derive(Clone, Copy)]
@@ -32,35 +36,6 @@ pub struct Layout {
     pub at9: usize,
 }
 
-// How section 6, 7 or 8 counts: trits from sample to sample, steps until counting begins anew, and bytes a number.
-#[derive(Clone, Copy)]
-pub struct Plan {
-    pub step: usize,
-    pub fan: usize,
-    pub width: usize,
-}
-
-impl Plan {
-    // Section 6; two steps pass the end of any image.
-    pub const FAR: Plan = Plan {
-        step: FAR,
-        fan: 2,
-        width: 4,
-    };
-    // Section 7.
-    pub const MIDDLE: Plan = Plan {
-        step: MIDDLE,
-        fan: FAR / MIDDLE,
-        width: 2,
-    };
-    // Section 8.
-    pub const NEAR: Plan = Plan {
-        step: NEAR,
-        fan: MIDDLE / NEAR,
-        width: 1,
-    };
-}
-
 // A level of samples: pairs, zeros then ones, of `width` bytes a number from byte `at` on, before multiples 0 to `last` of `step`, each counted
 // from the last multiple of `fan` steps.
 #[derive(Clone, Copy)]
@@ -74,7 +49,7 @@ pub struct Samples {
 
 impl Samples {
     // The samples of a plan from byte `at` on, over so many trits.
-    pub fn of(plan: Plan, at: usize, trits: usize) -> Samples
+    fn of(plan: Plan, at: usize, trits: usize) -> Samples
         requires { 0 < plan.step }
         ensures { result ≡ samples_of plan at trits }
     {
@@ -88,11 +63,50 @@ impl Samples {
     }
 }
 
+// Each says once which plan goes with which place; a function over plans would be handed both.
+impl Layout {
+    // The samples of section 6.
+    pub fn far(&self) -> Samples
+        ensures { result ≡ far_of self.now }
+    {
+        Samples::of(Plan::FAR, self.at6, self.trits)
+    }
+
+    // The samples of section 7.
+    pub fn middle(&self) -> Samples
+        ensures { result ≡ middle_of self.now }
+    {
+        Samples::of(Plan::MIDDLE, self.at7, self.trits)
+    }
+
+    // The samples of section 8.
+    pub fn near(&self) -> Samples
+        ensures { result ≡ near_of self.now }
+    {
+        Samples::of(Plan::NEAR, self.at8, self.trits)
+    }
+}
+
 // The zeros and ones before a place, or in part of a tryte.
 #[derive(Clone, Copy)]
 pub struct Ranks {
     pub zeros: usize,
     pub ones: usize,
+}
+
+impl Add for Ranks {
+    type Output = Ranks;
+
+    ghost can_add = { λ p q. (p.zeros + q.zeros < 2 ^ 64) × (p.ones + q.ones < 2 ^ 64) };
+
+    ghost add_gives = { λ p q r. r ≡ sum_of p q };
+
+    fn add(self, more: Ranks) -> Ranks {
+        Ranks {
+            zeros: self.zeros + more.zeros,
+            ones: self.ones + more.ones,
+        }
+    }
 }
 
 // Multiple `at` of a step, and how many of a trit stand before it.
@@ -107,8 +121,8 @@ pub fn lay_out(trits: usize, nodes: usize, roots: usize, shadows: usize, marked:
     requires { (trits ≤ 125536) × (nodes ≤ 30000) × (shadows ≤ 125536) × (marked ≤ 30000) }
     ensures { result ≡ layout trits nodes roots shadows marked }
 {
-    let words = (nodes + 63) / 64;
-    let at2 = 4 + (trits + 4) / 5 + 4;
+    let words = nodes.div_ceil(64);
+    let at2 = 4 + trits.div_ceil(5) + 4;
     let at3 = at2 + 2 * shadows + 4;
     let at4 = at3 + 8 * words + 4;
     let at5 = at4 + 4 * (marked + 1) + 4;

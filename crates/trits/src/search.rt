@@ -8,18 +8,18 @@ ghost use Rattle.trits.specs.Search.{Spotted, PlaceIn};
 
 use crate::digits::tryte_count;
 use crate::image::Image;
-use crate::{Plan, Spot, last_tryte};
+use crate::{Spot, last_tryte};
 
 // The place of the `t` number `k` in tryte `x`: how many of its trits, but the last, have fewer than `k` up to themselves.
 fn place_in(x: usize, t: usize, k: usize) -> usize
     requires { (x < 243) × (t < 3) × (0 < k) × (k ≤ tryte_count t x 5) }
     ensures { PlaceIn x t k result }
 {
-    let a = (x % 3 == t) as usize;
-    let b = a + (x / 3 % 3 == t) as usize;
-    let c = b + (x / 9 % 3 == t) as usize;
-    let d = c + (x / 27 % 3 == t) as usize;
-    (a < k) as usize + (b < k) as usize + (c < k) as usize + (d < k) as usize
+    let a = usize::from(x % 3 == t);
+    let b = a + usize::from(x / 3 % 3 == t);
+    let c = b + usize::from(x / 9 % 3 == t);
+    let d = c + usize::from(x / 27 % 3 == t);
+    usize::from(a < k) + usize::from(b < k) + usize::from(c < k) + usize::from(d < k)
 }
 
 impl Image<'_> {
@@ -72,12 +72,9 @@ impl Image<'_> {
         requires { (t < 3) × (0 < j) × (j ≤ count_in t (trits_of self.now.bytes.now)) }
         ensures { Selected t (trits_of self.now.bytes.now) j result }
     {
-        let far = self.level(Plan::FAR, self.lay.at6);
-        let middle = self.level(Plan::MIDDLE, self.lay.at7);
-        let near = self.level(Plan::NEAR, self.lay.at8);
-        let six = far.halve(t, j, Spot { at: 0, before: 0 });
-        let seven = middle.halve(t, j, six);
-        let eight = near.halve(t, j, seven);
+        let six = self.far().halve(t, j, Spot { at: 0, before: 0 });
+        let seven = self.middle().halve(t, j, six);
+        let eight = self.near().halve(t, j, seven);
         let tryte = self.find_tryte(t, j, eight);
         self.find_trit(t, j, tryte)
     }

@@ -7,38 +7,29 @@ use Rattle.trits.proofs.Searching.{rank_few}
 use Rattle.trits.proofs.image.Image.rank_block.Goals as goal
 use Rattle.trits.proofs.image.Image.rank_block.Goals.{After-counted-eight}
 
-pub level-far-requires : goal.level-far-requires
-level-far-requires c = far_sampled c.args.self.now.laid
-
-pub level-middle-requires : goal.level-middle-requires
-level-middle-requires c = middle_sampled c.args.self.now.laid
-
-pub level-near-requires : goal.level-near-requires
-level-near-requires c = near_sampled c.args.self.now.laid
-
 pub counted-six-requires : goal.counted-six-requires
 counted-six-requires c =
     let S = far_sampled c.args.self.now.laid in
-    rw c.level-far.ensures.1 (c.requires.0, omega (arith, S.last_is), omega (arith, few c.args.self.now.laid.whole))
+    rw c.far.ensures.1 (c.requires.0, omega (arith, S.last_is), omega (arith, few c.args.self.now.laid.whole))
 
 pub counted-seven-requires : goal.counted-seven-requires
 counted-seven-requires c =
     let S = middle_sampled c.args.self.now.laid in
-    rw c.level-middle.ensures.1 (c.requires.0, omega (arith, S.last_is), omega arith)
+    rw c.middle.ensures.1 (c.requires.0, omega (arith, S.last_is), omega arith)
 
 pub counted-eight-requires : goal.counted-eight-requires
 counted-eight-requires c =
     let S = near_sampled c.args.self.now.laid in
-    rw c.level-near.ensures.1 (c.requires.0, omega (arith, S.last_is), omega arith)
+    rw c.near.ensures.1 (c.requires.0, omega (arith, S.last_is), omega arith)
 
 summed : (c : After-counted-eight) → let a = c.args in
     c.counted-six.result + c.counted-seven.result + c.counted-eight.result ≡ rank a.t (trits_of a.self.now.bytes.now) (25 * a.g)
 summed c =
     let a = c.args in
     three_samples a.t (trits_of a.self.now.bytes.now) a.g _ _ _
-    (rw (c.level-far.ensures.0, c.level-far.ensures.1) at c.counted-six.ensures)
-    (rw (c.level-middle.ensures.0, c.level-middle.ensures.1) at c.counted-seven.ensures)
-    (rw (c.level-near.ensures.0, c.level-near.ensures.1) at c.counted-eight.ensures)
+    (rw (c.far.ensures.0, c.far.ensures.1) at c.counted-six.ensures)
+    (rw (c.middle.ensures.0, c.middle.ensures.1) at c.counted-seven.ensures)
+    (rw (c.near.ensures.0, c.near.ensures.1) at c.counted-eight.ensures)
 
 pub overflow_add-result : goal.overflow_add-result
 overflow_add-result c =
