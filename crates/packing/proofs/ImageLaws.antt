@@ -185,18 +185,18 @@ module _ {trits H : List ℕ} {lay : Layout} {l : List ℕ} (d : LaidOut trits H
       let two = put_part lay.at2 (lay.at3 - 4) lay.shadows _ (section2 trits H) (omega arith) (omega arith) (omega (arith, puts_size one)) sized.shadows_are eb ev in
       puts_first (puts_behind one two (omega arith)) o.at1_is
 
-  pub marks_put : {a b c us vs ws : List ℕ} → a ≡ put_at l (lay.at3 - 4) (le_bytes 4 lay.nodes) → us ≡ (section3 trits H).contents
+  pub marks_put : {a b c us vs ws : List ℕ} {w : ℕ} → w ≡ up lay.nodes 64 → a ≡ put_at l (lay.at3 - 4) (le_bytes 4 lay.nodes) → us ≡ (section3 trits H).contents
       → b ≡ put_at (lent lay.at3 (lay.at4 - 4) a us) (lay.at4 - 4) (le_bytes 4 (lay.marked + 1)) → vs ≡ (section4 trits H).contents
-      → c ≡ put_at (lent lay.at4 (lay.at5 - 4) b vs) (lay.at9 - 4) (le_bytes 4 (up lay.nodes 64)) → ws ≡ (section9 trits H).contents
-      → lent lay.at9 (lay.at9 + 2 * up lay.nodes 64) c ws ≡ put_at (put_at l (lay.at3 - 4) (written (section3 trits H ∷ section4 trits H ∷ []))) (lay.at9 - 4) (written (section9 trits H ∷ []))
+      → c ≡ put_at (lent lay.at4 (lay.at5 - 4) b vs) (lay.at9 - 4) (le_bytes 4 w) → ws ≡ (section9 trits H).contents
+      → lent lay.at9 (lay.at9 + 2 * w) c ws ≡ put_at (put_at l (lay.at3 - 4) (written (section3 trits H ∷ section4 trits H ∷ []))) (lay.at9 - 4) (written (section9 trits H ∷ []))
   unfolding section3 section4 section9
-  marks_put ea eu eb ev ec ew =
+  marks_put {w = w} f ea eu eb ev ec ew =
       let o = offsets in
       let z = sized.size_is 8 in
       let three = put_part lay.at3 (lay.at4 - 4) lay.nodes l (section3 trits H) (omega arith) (omega arith) (omega arith) sized.nodes_are ea eu in
       let four = put_part lay.at4 (lay.at5 - 4) (lay.marked + 1) _ (section4 trits H) (omega arith) (omega arith) (omega (arith, puts_size three)) (omega (arith, sized.marked_are)) eb ev in
       let both = puts_behind three four (omega arith) in
-      let nine = put_part lay.at9 (lay.at9 + 2 * up lay.nodes 64) (up lay.nodes 64) _ (section9 trits H) (omega arith) (omega arith) (omega (arith, puts_size both)) (omega (arith, sized.nodes_are)) ec ew in
+      let nine = put_part lay.at9 (lay.at9 + 2 * w) w _ (section9 trits H) (omega arith) (omega arith) (omega (arith, puts_size both)) (omega (arith, sized.nodes_are)) ec ew in
       rw both.is at nine.is
 
   pub plan6 : Plan 65725 2 4 lay.trits lay.at6 l

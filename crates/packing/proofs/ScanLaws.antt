@@ -9,20 +9,12 @@ use native.Mathlib.Omega.{arith}
 use lib.ListN.{length, get_or, drop, length-append, length-drop, drop_of_length-le}
 use lib.Seq.{drop-cons, drop-drop, drop-append_seam}
 use borrow.Author.Tests.{lt-leb, ne_eqb}
-use Rattle.std.specs.Prelude.{Result, Err}
-use Rattle.std.specs.Result.{IsErrAnd}
-use Rattle.std.proofs.lemmas.Result.{err_from_is_err_and}
-use Rattle.format.specs.declared.Refusal.{Refusal}
 use Rattle.format.specs.Lists.{number_in}
 use Rattle.format.specs.Table.{Graph, edges, is_node, list_words, Got, stopped, got, and_then, word, read_operands, read_nodes, read_roots, read_graph, whole_table, read_table, read_end}
 use Rattle.format.proofs.Laws.{is_node_node}
 use Rattle.format.proofs.Reading.{operand_on, next_lists, count_on, root_on, with_roots, size_on, Holds, Operands, got_operands, Rows, got_nodes, words_read}
 use Rattle.format.proofs.Outcomes.{length_runs, length_words}
 use Rattle.packing.specs.Sizes.{step_of, sizes_of, Lists}
-
--- what `?` hands on
-pub handed : {T : Type 0} {f : Refusal} {r : Result T Refusal} → IsErrAnd r (λ e. e ≡ f) → r ≡ Err f
-handed {r = r} h = let p = err_from_is_err_and r h in p.1 ∙ ap Err p.2
 
 -- ---- places
 

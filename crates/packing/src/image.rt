@@ -1,4 +1,5 @@
-// The image of a walked table: nine sections, each after its count, one behind the other.
+// The image of a walked table: nine sections, each after its count, one behind the other. The writers of sections 3 to 9 know trits and shadows by
+// what stands in the image alone, so their contracts speak of all that fit.
 ghost use Rattle.std.specs.Prelude.{◌≡◌, List, [], ◌∷◌, ℕ, ◌-◌, ◌≤◌};
 ghost use Rattle.format.specs.Lists.{over};
 ghost use Rattle.format.specs.Level.{walk};
@@ -36,7 +37,7 @@ fn put_marks(uses: &[u32], image: &mut [u8], lay: Layout)
     ensures { (trits H : List ℕ) → LaidOut trits H lay image.old → Uses trits H uses.now
         → image.new ≡ put_at (put_at image.old (lay.at3 - 4) (written (section3 trits H ∷ section4 trits H ∷ []))) (lay.at9 - 4) (written (section9 trits H ∷ [])) }
 {
-    let words = (lay.nodes + 63) / 64;
+    let words = lay.nodes.div_ceil(64);
     put::<4>(image, lay.at3 - 4, lay.nodes);
     marks::put_marks(uses, &mut image[lay.at3..lay.at4 - 4]);
     put::<4>(image, lay.at4 - 4, lay.marked + 1);

@@ -24,7 +24,7 @@ fn put_all(
     let uses = s.edges + s.roots;
     let marked = count_marked(work, n);
     let lay = trits::lay_out(n + uses + 1, n, s.roots, uses - n, marked);
-    let size = lay.at9 + 2 * ((n + 63) / 64);
+    let size = lay.at9 + 2 * n.div_ceil(64);
     let fits = size <= image.len();
     if !fits {
         return Err(Refusal::ImageTooShort);

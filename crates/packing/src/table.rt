@@ -1,12 +1,11 @@
 // Reading a table, front to back: refusals 1 to 6.
-ghost use Rattle.std.specs.Prelude.{◌≡◌, not, List, [], ℕ, ◌≤◌, ◌<◌, length, get_or, drop, MatchResult};
-ghost use Rattle.format.specs.Table.{is_node, read_operands, read_nodes, read_roots, read_table};
+ghost use Rattle.std.specs.Prelude.{◌≡◌, List, [], ℕ, ◌≤◌, ◌<◌, length, get_or, drop, MatchResult};
+ghost use Rattle.format.specs.Table.{read_operands, read_nodes, read_roots, read_table};
 ghost use Rattle.format.specs.declared.Refusal.TheVariants.{TableEnds};
 ghost use Rattle.packing.specs.Sizes.{place_of, step_of, sizes, sizes_of, Lists};
-ghost use Rattle.marks.specs.Bits.{bit_of};
 
 use format::{MAX_EDGES, MAX_NODES, Refusal};
-use marks::with_mark;
+use marks::{MARK_WORDS, mark_in, with_mark};
 
 // The sizes of a table: n, m and c.
 #[derive(Clone, Copy)]
@@ -27,13 +26,6 @@ fn called(table: &[u16], at: usize) -> Result<usize, Refusal>
     }
 }
 
-// No number from 1 to n.
-fn outside(n: usize, v: usize) -> bool
-    ensures { is_node n v ≡ not result }
-{
-    !(1..=n).contains(&v)
-}
-
 // Reads k operands from `at` on.
 fn operands(table: &[u16], n: usize, at: usize, k: usize) -> Result<usize, Refusal>
     requires { at ≤ length table.now }
@@ -41,7 +33,7 @@ fn operands(table: &[u16], n: usize, at: usize, k: usize) -> Result<usize, Refus
 {
     for i in 0..k {
         let v = called(table, at + i)?;
-        if outside(n, v) {
+        if !(1..=n).contains(&v) {
             return Err(Refusal::OperandOutside);
         }
     }
@@ -67,29 +59,21 @@ fn lists(table: &[u16], n: usize) -> Result<usize, Refusal>
     Ok(at)
 }
 
-// A bit of a word.
-fn tested(word: u64, b: usize) -> u64
-    requires { b < 64 }
-    ensures { result ≡ bit_of word b }
-{
-    (word >> b) % 2
-}
-
 // Reads c roots from `at` on, none of them twice.
 fn roots(table: &[u16], n: usize, at: usize, c: usize) -> Result<usize, Refusal>
     requires { (at ≤ length table.now) × (n ≤ 30000) }
     ensures { place_of result ≡ step_of table.now (read_roots n c [] (drop at table.now)) }
 {
-    let mut seen = [0u64; 469];
+    let mut seen = [0u64; MARK_WORDS];
     for i in 0..c {
         let v = called(table, at + i)?;
-        if outside(n, v) {
+        if !(1..=n).contains(&v) {
             return Err(Refusal::RootOutside);
         }
         let w = v / 64;
         let b = v % 64;
         let marks = seen[w];
-        if tested(marks, b) != 0 {
+        if mark_in(marks, b) != 0 {
             return Err(Refusal::RootTwice);
         }
         seen[w] = with_mark(marks, b);

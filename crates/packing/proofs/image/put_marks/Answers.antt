@@ -33,6 +33,9 @@ put_starts-requires c =
 pub put-requires-3 : goal.put-requires-3
 put-requires-3 c = omega (arith, within c.requires.2)
 
+pub overflow_add-lay-2 : goal.overflow_add-lay-2
+overflow_add-lay-2 c = omega (arith, within c.requires.2)
+
 pub slice_bounds-put_mark_samples-end : goal.slice_bounds-put_mark_samples-end
 slice_bounds-put_mark_samples-end c = omega (arith, within c.requires.2)
 
@@ -47,4 +50,4 @@ pub returns : goal.returns
 unfolding section3 section4 section9
 returns c =
     λ trits H d u.
-    marks_put d c.put.ensures (c.put_marks.ensures trits H u) c.put-2.ensures (c.put_starts.ensures trits H u) c.put-3.ensures (c.put_mark_samples.ensures trits H u)
+    marks_put d (omega arith) c.put.ensures (c.put_marks.ensures trits H u) c.put-2.ensures (c.put_starts.ensures trits H u) c.put-3.ensures (c.put_mark_samples.ensures trits H u)

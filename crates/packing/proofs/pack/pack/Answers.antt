@@ -2,7 +2,7 @@
 use Rattle.std.proofs.Common.{arith, inl, inr}
 use Rattle.format.proofs.Outcomes.{pack_faulty}
 use Rattle.packing.proofs.RunLaws.{limits}
-use Rattle.packing.proofs.ScanLaws.{handed}
+use Rattle.format.proofs.Handed.{handed}
 use Rattle.packing.proofs.PackLaws.{refused, scanned, outcome_7}
 use Rattle.packing.proofs.pack.pack.Goals as goal
 

@@ -1,5 +1,6 @@
 -- What it leaves is packing's outcome, but that the work is not cleared.
 use Rattle.std.proofs.Common.{◌≡◌, arith}
+use Rattle.format.specs.Lists.{up}
 use Rattle.packing.specs.Work.{graph_of}
 use Rattle.packing.specs.Packed.{graph_layout}
 use Rattle.packing.proofs.PackLaws.{totals, laid_out, size_small, uncleared_9, planned, uncleared_done}
@@ -27,8 +28,8 @@ lay_out-lay-requires c =
     let t = totals o in
     (omega arith, omega arith, omega arith, omega (arith, c.count_marked-marked.ensures _ o.walked.held))
 
-pub overflow_add-size-2 : goal.overflow_add-size-2
-overflow_add-size-2 c = omega (arith, size_small c.requires (laid (goal.at.overflow_add-size-2 c).After-lay_out-lay))
+pub overflow_add-size : goal.overflow_add-size
+overflow_add-size c = omega (arith, size_small c.requires (laid (goal.at.overflow_add-size c).After-lay_out-lay))
 
 pub returns-then-not-fits : goal.returns-then-not-fits
 returns-then-not-fits c = uncleared_9 c.requires (laid (goal.at.returns-then-not-fits c).After-lay_out-lay) (omega arith)
@@ -39,4 +40,5 @@ put_image-requires c = planned c.requires (laid (goal.at.put_image-requires c).A
 pub returns : goal.returns
 returns c =
     let o = c.requires in
-    uncleared_done o (laid (goal.at.returns c).After-lay_out-lay) (omega arith) (c.put_order.ensures _ o.walked.held) c.put_image.auto.work c.put_image.ensures.1 c.put_image.ensures.0
+    let e : c.div_ceil.result ≡ up c.args.s.nodes 64 = omega arith in
+    rw e (uncleared_done o (laid (goal.at.returns c).After-lay_out-lay) (omega arith) (c.put_order.ensures _ o.walked.held) c.put_image.auto.work c.put_image.ensures.1 c.put_image.ensures.0)

@@ -1,7 +1,8 @@
 -- By the answer of `roots`.
 use Rattle.std.proofs.Common.{ap, ◌∙◌, Err}
 use Rattle.packing.specs.Sizes.{sizes}
-use Rattle.packing.proofs.ScanLaws.{handed, ending_short, ending_bad, ending_more, ending_done}
+use Rattle.format.proofs.Handed.{handed}
+use Rattle.packing.proofs.ScanLaws.{ending_short, ending_bad, ending_more, ending_done}
 use Rattle.packing.proofs.table.ending.Goals as goal
 
 pub returns-in_err-c : goal.returns-in_err-c

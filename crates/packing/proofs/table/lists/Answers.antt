@@ -1,7 +1,8 @@
 -- A word too few, too many operands, a list with a fault, or one list more.
 use Rattle.std.proofs.Common.{ap, ◌∙◌, Err, arith, ◌+◌, ◌-◌}
 use Rattle.packing.specs.Sizes.{place_of}
-use Rattle.packing.proofs.ScanLaws.{handed, lists_none, lists_short, count_above, list_bad, list_next}
+use Rattle.format.proofs.Handed.{handed}
+use Rattle.packing.proofs.ScanLaws.{lists_none, lists_short, count_above, list_bad, list_next}
 use Rattle.packing.proofs.table.lists.Goals as goal
 
 pub returns-in_err-k : goal.returns-in_err-k

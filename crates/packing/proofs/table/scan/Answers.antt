@@ -1,7 +1,8 @@
 -- By the answers of `lists` and `ending`.
 use Rattle.std.proofs.Common.{ap, ◌∙◌, Err, arith}
 use Rattle.packing.specs.Sizes.{sizes}
-use Rattle.packing.proofs.ScanLaws.{handed, scan_short, scan_large, scan_bad, scan_lists}
+use Rattle.format.proofs.Handed.{handed}
+use Rattle.packing.proofs.ScanLaws.{scan_short, scan_large, scan_bad, scan_lists}
 use Rattle.packing.proofs.table.scan.Goals as goal
 
 pub returns-in_err-n : goal.returns-in_err-n
