@@ -18,9 +18,9 @@ use Rattle.samples.specs.Samples.{Sampling, far, middle, near, sample_section}
 use Rattle.proper.proofs.OpenLaws.{Front}
 
 module _ (trits H : List ℕ) where
-  pub front3 : {n : ℕ} → node_count trits ≡ n → Front (section3 trits H) n (8 * up n 64)
+  pub front3 : {n w : ℕ} → node_count trits ≡ n → w ≡ up n 64 → Front (section3 trits H) n (8 * w)
   unfolding section3
-  front3 e = record { counts = e; fills = length_bytes 8 (mark_words trits H) ∙ ap (λ (k : ℕ). 8 * k) (length_mark_words trits H ∙ ap (λ (k : ℕ). up k 64) e) }
+  front3 e f = record { counts = e; fills = length_bytes 8 (mark_words trits H) ∙ ap (λ (k : ℕ). 8 * k) (length_mark_words trits H ∙ ap (λ (k : ℕ). up k 64) e ∙ sym f) }
 
   pub front4 : {h : ℕ} → length (marked_nodes trits H) ≡ h → Front (section4 trits H) (h + 1) (4 * (h + 1))
   unfolding section4
@@ -35,9 +35,9 @@ module _ (trits H : List ℕ) where
         ∙ ap (λ (k : ℕ). 4 * k) (length_grouped trits H p.paired (shadow_nodes trits H p.paired p.seen) ∙ e);
   }
 
-  pub front9 : {n : ℕ} → node_count trits ≡ n → Front (section9 trits H) (up n 64) (2 * up n 64)
+  pub front9 : {n w : ℕ} → node_count trits ≡ n → w ≡ up n 64 → Front (section9 trits H) w (2 * w)
   unfolding section9
-  front9 e = let f = ap (λ (k : ℕ). up k 64) e in record { counts = f; fills = length_bytes 2 (mark_samples trits H) ∙ ap (λ (k : ℕ). 2 * k) (length_mark_samples trits H ∙ f) }
+  front9 e g = let f = ap (λ (k : ℕ). up k 64) e ∙ sym g in record { counts = f; fills = length_bytes 2 (mark_samples trits H) ∙ ap (λ (k : ℕ). 2 * k) (length_mark_samples trits H ∙ f) }
 
 -- no more nodes are marked than there are
 pub marked_few : (trits H : List ℕ) → length (marked_nodes trits H) ≤ node_count trits

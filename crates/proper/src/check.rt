@@ -1,5 +1,6 @@
-// The checker: the sections in their order, up to the first fault.
-ghost use Rattle.std.specs.Prelude.{◌≡◌, List, [], ◌∷◌, ℕ, ◌+◌, ◌*◌, ◌≤◌, ◌<◌, MatchResult, length};
+// The checker: the sections in their order, up to the first fault. Where section 2 or 3 alone is known, which many trits fit, a contract speaks of all
+// that do.
+ghost use Rattle.std.specs.Prelude.{◌≡◌, List, ◌∷◌, ℕ, ◌+◌, ◌*◌, ◌≤◌, ◌<◌, MatchResult, length};
 ghost use Rattle.format.specs.Faults.{fault, ◌then◌};
 ghost use Rattle.format.specs.Lists.{same};
 ghost use Rattle.format.specs.Trits.{untrytes};
@@ -69,7 +70,7 @@ fn from9(marks: &[u8], rest: &[u8], lay: Layout) -> Result<(), Refusal>
     ensures { (trits H : List ℕ) → Marked trits H marks.now → lay.nodes ≡ node_count trits
         → checked_number result ≡ check_given (given_from 6 trits H) rest.now }
 {
-    let words = (lay.nodes + 63) / 64;
+    let words = lay.nodes.div_ceil(64);
     let (part, end) = section(rest, Refusal::IndexWrong, words, 2 * words)?;
     if !mark_samples_right(marks, part) {
         return Err(Refusal::IndexWrong);
@@ -145,7 +146,7 @@ fn from3(walk: &Walk, rest: &[u8], sizes: Sizes) -> Result<Layout, Refusal>
     ensures { Examines (check_given (given (trits_in walk.now.trits) (shadows_in walk.now)) rest.now) (laying (trits_in walk.now.trits) (shadows_in walk.now)) result }
 {
     let n = sizes.nodes;
-    let (marks, after3) = section(rest, Refusal::IndexWrong, n, 8 * ((n + 63) / 64))?;
+    let (marks, after3) = section(rest, Refusal::IndexWrong, n, 8 * n.div_ceil(64))?;
     if !marks_right(walk.shadows, marks, n) {
         return Err(Refusal::IndexWrong);
     }
@@ -185,7 +186,7 @@ pub fn examine<'a>(bytes: &'a [u8]) -> Result<Image<'a>, Refusal>
     if l == 0 {
         return Err(Refusal::TritsWrong);
     }
-    let (bs, rest) = contents(bytes, (l + 4) / 5)?;
+    let (bs, rest) = contents(bytes, l.div_ceil(5))?;
     let sizes = section1(bs, l)?;
     let lay = from2(bs, rest, l, sizes)?;
     Ok(Image::of(bytes, lay))

@@ -1,4 +1,5 @@
-// Section 1 of an image: its own rules (23), then the limits (22), and the sizes that its trits give.
+// Section 1 of an image: its own rules (23), then the limits (22), and the sizes that its trits give. The bytes and L stand beside one another here:
+// the type `Trits` says that section 1 has passed.
 ghost use Rattle.std.specs.Prelude.{◌≡◌, true, ◌+◌, ◌≤◌, ◌<◌, length};
 ghost use Rattle.format.specs.Lists.{up};
 ghost use Rattle.format.specs.Trits.{untrytes};
@@ -37,12 +38,7 @@ fn zero_padded(bs: &[u8], l: usize) -> bool
     requires { (length bs.now ≡ up l 5) × (l ≤ 125536) }
     ensures { result ≡ padded l bs.now }
 {
-    for p in l..5 * bs.len() {
-        if trit(bs, p) != 0 {
-            return false;
-        }
-    }
-    true
+    (l..5 * bs.len()).all(|p| trit(bs, p) == 0)
 }
 
 // The number of roots: the ones before the first zero, where no 2 stands.
@@ -128,13 +124,10 @@ pub fn section1(bs: &[u8], l: usize) -> Result<Sizes, Refusal>
     if !bytes_low(bs) || !zero_padded(bs, l) {
         return Err(Refusal::TritsWrong);
     }
-    let Some(roots) = roots_given(bs, l) else {
-        return Err(Refusal::TritsWrong);
-    };
-    let Some(nodes) = nodes_given(bs, l) else {
-        return Err(Refusal::TritsWrong);
-    };
-    if nodes > MAX_NODES {
+    let roots = roots_given(bs, l).ok_or(Refusal::TritsWrong)?;
+    let nodes = nodes_given(bs, l).ok_or(Refusal::TritsWrong)?;
+    let too_many = nodes > MAX_NODES;
+    if too_many {
         return Err(Refusal::ImageTooLarge);
     }
     if l - nodes - roots - 1 > MAX_EDGES {

@@ -9,7 +9,7 @@ ghost use Rattle.proper.specs.Known.{Shadowed, Marked};
 ghost use Rattle.proper.specs.Marking.{MarkMap};
 
 use little::get;
-use marks::with_mark;
+use marks::{MARK_WORDS, with_mark};
 
 // Entry i of H.
 pub fn shadow(hs: &[u8], i: usize) -> usize
@@ -37,7 +37,7 @@ fn words_right(map: &[u64], part: &[u8], n: usize) -> bool
     ensures { (trits H : List ℕ) → ProperTrits trits H → MarkMap H map.now → node_count trits ≡ n
         → result ≡ same part.now (bytes 8 (mark_words trits H)) }
 {
-    for w in 0..(n + 63) / 64 {
+    for w in 0..n.div_ceil(64) {
         if get::<8>(part, 8 * w) as u64 != map[w] {
             return false;
         }
@@ -50,7 +50,7 @@ pub fn marks_right(hs: &[u8], part: &[u8], n: usize) -> bool
     requires { (trits : List ℕ) × (H : List ℕ) × Shadowed trits H hs.now × (node_count trits ≡ n) × (length part.now ≡ 8 * up n 64) }
     ensures { (trits H : List ℕ) → Shadowed trits H hs.now → node_count trits ≡ n → result ≡ same part.now (bytes 8 (mark_words trits H)) }
 {
-    let mut map = [0u64; 469];
+    let mut map = [0u64; MARK_WORDS];
     set_marks(hs, &mut map);
     words_right(&map, part, n)
 }

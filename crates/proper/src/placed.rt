@@ -6,9 +6,13 @@ ghost use Rattle.format.specs.Image.{read};
 ghost use Rattle.proper.specs.Held.{trits_in, shadows_in};
 ghost use Rattle.proper.specs.Places.{TwoTable, step_for, Spaced, two_samples, TwosAt, Answered, number_is, Long, both_right};
 
+use crate::started::BLOCK;
 use crate::walk::{Trits, Walk};
 use little::get;
 use trits::digits::{trit, tryte_count, tryte_cut};
+
+// The factor of a key's node: the least power of 2 above every place, of which an image has 125,536.
+const KEY_FACTOR: usize = 131072;
 
 // How many twos each tryte has.
 fn two_table() -> [u8; 243]
@@ -49,7 +53,7 @@ fn step_for(l: usize) -> usize
 }
 
 // Puts the twos before every tryte whose number is a multiple of `step`; past the whole trytes, the twos of all of these.
-fn sample_twos(trits: &Trits, counts: &[u8; 243], step: usize, twos: &mut [u16; 2048])
+fn sample_twos(trits: &Trits, counts: &[u8; 243], step: usize, twos: &mut [u16; BLOCK])
     requires { TwoTable counts.now × (length twos.old ≡ 2048) × Spaced trits.now.count step × (count_in 2 (trits_in trits.now) ≤ 65535) }
     ensures { twos.new ≡ over (two_samples (trits_in trits.now) step) twos.old }
 {
@@ -70,7 +74,7 @@ fn sample_twos(trits: &Trits, counts: &[u8; 243], step: usize, twos: &mut [u16; 
 struct Twos<'a> {
     walk: Walk<'a>,
     counts: &'a [u8; 243],
-    samples: &'a [u16; 2048],
+    samples: &'a [u16; BLOCK],
     step: usize,
     ghost counted: { TwoTable counts.now },
     ghost spaced: { Spaced walk.trits.count step },
@@ -136,7 +140,7 @@ impl<'a> Twos<'a> {
             return None;
         }
         let j = self.before(p);
-        let key = 131072 * get::<2>(self.walk.shadows, 2 * j) + p;
+        let key = KEY_FACTOR * get::<2>(self.walk.shadows, 2 * j) + p;
         if key < low {
             return None;
         }
@@ -164,9 +168,9 @@ fn keys_right(twos: &Twos, firsts: &[u8], part: &[u8]) -> bool
         let Some(key) = twos.key(part, e, low) else {
             return false;
         };
-        let before = low / 131072;
+        let before = low / KEY_FACTOR;
         low = key + 1;
-        if before < key / 131072 {
+        if before < key / KEY_FACTOR {
             if !number_is(firsts, j, e) {
                 return false;
             }
@@ -178,7 +182,7 @@ fn keys_right(twos: &Twos, firsts: &[u8], part: &[u8]) -> bool
 
 // Sections 4 and 5: the places of the twos, grouped by node rising, then by place; and the index of each node's first place, then k. `twos` gets
 // the samples.
-pub fn both_by_keys(walk: &Walk, firsts: &[u8], part: &[u8], twos: &mut [u16; 2048]) -> bool
+pub fn both_by_keys(walk: &Walk, firsts: &[u8], part: &[u8], twos: &mut [u16; BLOCK]) -> bool
     requires { (length twos.old ≡ 2048) × Long (trits_in walk.now.trits) (shadows_in walk.now) firsts.now part.now }
     ensures { (result ≡ both_right (trits_in walk.now.trits) (shadows_in walk.now) firsts.now part.now)
         × (twos.new ≡ over (two_samples (trits_in walk.now.trits) (step_for walk.now.trits.count)) twos.old) }

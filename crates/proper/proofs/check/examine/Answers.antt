@@ -1,6 +1,6 @@
 -- Section 1's faults, or what sections 2 to 9 give.
 use Rattle.std.proofs.Common.{Result, Ok, Err, ◌≡◌, ◌∙◌, ◌≤◌, ℕ, sym, ap, arith, length-drop}
-use Rattle.std.proofs.lemmas.Result.{err_from_is_err_and}
+use Rattle.format.proofs.Handed.{handed}
 use Rattle.format.specs.Lists.{up}
 use Rattle.format.specs.Trits.{untrytes}
 use Rattle.format.specs.Proper.{count_of, contents_of, rest_of, size1, trits_of, contents_fault1, fault1, check_image, SectionGives}
@@ -21,9 +21,8 @@ first c h = (checker_gives c.args.bytes.now).section_1 (omega (arith, c.in_ok-l.
 
 pub returns-in_err-l : goal.returns-in_err-l
 returns-in_err-l c =
-    let p = err_from_is_err_and c.from_residual.result c.from_residual.ensures.1 in
     let e = c.in_err-l.ensures in
-    rw (p.1, p.2, e.0) (refused_1 _ ImageEnds (missing_1 c.args.bytes.now e.1))
+    rw (handed c.from_residual.ensures.1, e.0) (refused_1 _ ImageEnds (missing_1 c.args.bytes.now e.1))
 
 pub returns-then-l-gt-MAX_TRITS : goal.returns-then-l-gt-MAX_TRITS
 returns-then-l-gt-MAX_TRITS c =
@@ -37,18 +36,21 @@ returns-then-l-eq0 c =
 
 pub returns-in_err-bs : goal.returns-in_err-bs
 returns-in_err-bs c =
-    let p = err_from_is_err_and c.from_residual-in_err-bs.result c.from_residual-in_err-bs.ensures.1 in
     let b = c.args.bytes.now in
     let e = c.in_ok-l.ensures in
     let k = c.in_err-bs.ensures in
-    rw (p.1, p.2, k.0) (refused_1 b ImageEnds ((first (goal.at.returns-in_err-bs c).In_ok-l (omega arith)).contents_missing e.0 (omega (arith, e.1)) (omega (arith, length-drop 4 b, e.1, k.1))))
+    rw (handed c.from_residual-in_err-bs.ensures.1, k.0) (refused_1 b ImageEnds ((first (goal.at.returns-in_err-bs c).In_ok-l (omega arith)).contents_missing e.0 (omega (arith, e.1)) (omega (arith, length-drop 4 b, e.1, k.1))))
+
+-- the size of section 1's contents
+size_is : (c : In_ok-bs) → c.div_ceil.result ≡ up (count_of c.args.bytes.now) 5
+size_is c = omega (arith, c.in_ok-l.ensures)
 
 -- the bytes of section 1, and those behind them, as the definitions cut them
 bytes_are : (c : In_ok-bs) → let b = c.args.bytes.now in c.in_ok-bs.bs.now ≡ contents_of (size1 b) b
-bytes_are c = c.in_ok-bs.ensures.part_is ∙ ap (λ (x : ℕ). contents_of (up x 5) c.args.bytes.now) c.in_ok-l.ensures.1
+bytes_are c = c.in_ok-bs.ensures.part_is ∙ ap (λ (x : ℕ). contents_of x c.args.bytes.now) (size_is c)
 
 rest_are : (c : In_ok-bs) → let b = c.args.bytes.now in c.in_ok-bs.rest.now ≡ rest_of (size1 b) b
-rest_are c = c.in_ok-bs.ensures.rest_is ∙ ap (λ (x : ℕ). rest_of (up x 5) c.args.bytes.now) c.in_ok-l.ensures.1
+rest_are c = c.in_ok-bs.ensures.rest_is ∙ ap (λ (x : ℕ). rest_of x c.args.bytes.now) (size_is c)
 
 there : (c : In_ok-bs) → fault1 c.args.bytes.now ≡ contents_fault1 c.in_ok-l.l c.in_ok-bs.bs.now
 there c =
@@ -59,12 +61,11 @@ there c =
 
 pub returns-in_err-sizes : goal.returns-in_err-sizes
 returns-in_err-sizes c =
-    let p = err_from_is_err_and c.from_residual-in_err-sizes.result c.from_residual-in_err-sizes.ensures.1 in
-    rw (p.1, p.2) (refused_1 _ _ (there (goal.at.returns-in_err-sizes c).In_ok-bs ∙ c.in_err-sizes.ensures))
+    rw (handed c.from_residual-in_err-sizes.ensures.1) (refused_1 _ _ (there (goal.at.returns-in_err-sizes c).In_ok-bs ∙ c.in_err-sizes.ensures))
 
 -- section 1 has passed
 passed : (c : In_ok-sizes) → FirstPassed c.in_ok-bs.bs.now c.in_ok-l.l c.in_ok-sizes.sizes.nodes c.in_ok-sizes.sizes.roots c.in_ok-sizes.sizes.shadows
-passed c = first_passed_is {z = c.in_ok-sizes.sizes} (omega arith) (omega arith) c.in_ok-bs.ensures.part_long c.in_ok-sizes.ensures
+passed c = first_passed_is {z = c.in_ok-sizes.sizes} (omega arith) (omega arith) (omega (arith, c.in_ok-bs.ensures.part_long)) c.in_ok-sizes.ensures
 
 pub from2-requires : goal.from2-requires
 from2-requires c = passed (goal.at.from2-requires c).In_ok-sizes
@@ -84,8 +85,7 @@ whole c r h =
 
 pub returns-in_err-lay : goal.returns-in_err-lay
 returns-in_err-lay c =
-    let p = err_from_is_err_and c.from_residual-in_err-lay.result c.from_residual-in_err-lay.ensures.1 in
-    rw (p.1, p.2) (whole (goal.at.returns-in_err-lay c).In_ok-sizes (Err c.in_err-lay.field-0.0) c.in_err-lay.ensures)
+    rw (handed c.from_residual-in_err-lay.ensures.1) (whole (goal.at.returns-in_err-lay c).In_ok-sizes (Err c.in_err-lay.field-0.0) c.in_err-lay.ensures)
 
 pub of-requires : goal.of-requires
 of-requires c = whole (goal.at.of-requires c).In_ok-sizes (Ok c.in_ok-lay.lay) c.in_ok-lay.ensures

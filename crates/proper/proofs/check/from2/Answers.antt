@@ -1,6 +1,6 @@
 -- Sections 1 and 2 have passed where section 2 has.
 use Rattle.std.proofs.Common.{◌∙◌, ◌*◌, ℕ, sym, ap, subst, arith}
-use Rattle.std.proofs.lemmas.Result.{err_from_is_err_and}
+use Rattle.format.proofs.Handed.{handed}
 use Rattle.format.specs.Trits.{untrytes}
 use Rattle.format.specs.Lists.{Below}
 use Rattle.format.proofs.Laws.{count_le}
@@ -14,8 +14,7 @@ overflow_mul-k c = let F = c.requires in omega (arith, F.sized.twos_are, F.sized
 
 pub returns-in_err-hs : goal.returns-in_err-hs
 returns-in_err-hs c =
-    let p = err_from_is_err_and c.from_residual.result c.from_residual.ensures.1 in
-    rw (p.1, p.2) (second_refused _ c.args.rest.now c.requires.sized.twos_are _ c.in_err-hs.ensures)
+    rw (handed c.from_residual.ensures.1) (second_refused _ c.args.rest.now c.requires.sized.twos_are _ c.in_err-hs.ensures)
 
 pub invariant_of-trits : goal.invariant_of-trits
 invariant_of-trits c = let F = c.requires in record { trits_in = first_trits F; counted = F.sized.trits_are }

@@ -1,6 +1,6 @@
 -- Sections 1, 2 and 3 have passed where section 3 has.
-use Rattle.std.proofs.Common.{◌≡◌, ◌∙◌, ◌≤◌, sym, arith}
-use Rattle.std.proofs.lemmas.Result.{err_from_is_err_and}
+use Rattle.std.proofs.Common.{◌≡◌, ◌*◌, ◌∙◌, ◌≤◌, sym, arith}
+use Rattle.format.proofs.Handed.{handed}
 use Rattle.format.specs.Image.{given, section3}
 use Rattle.format.proofs.Laws.{same_eq}
 use Rattle.format.proofs.CheckLaws.{limits_nodes}
@@ -9,31 +9,31 @@ use Rattle.format.specs.Proper.{check_given}
 use Rattle.proper.specs.Held.{trits_in, shadows_in}
 use Rattle.proper.specs.Known.{Marked}
 use Rattle.proper.specs.Examined.{Counted, given_from}
-use Rattle.proper.proofs.OpenLaws.{front_refused, contents_wrong, contents_passed}
+use Rattle.proper.proofs.OpenLaws.{Front, front_refused, contents_wrong, contents_passed}
 use Rattle.proper.proofs.GivenLaws.{front3, marked_few, laying_is}
 use Rattle.proper.proofs.check.from3.Goals as goal
-use Rattle.proper.proofs.check.from3.Goals.{Start, In_ok-marks, Else-not-marks_right, After-lay_out-lay}
+use Rattle.proper.proofs.check.from3.Goals.{Start, After-div_ceil, Else-not-marks_right, After-lay_out-lay}
 
 -- there are no more nodes than an image can have
 few : (c : Start) → c.args.sizes.nodes ≤ 30000
 few c = let w = c.args.walk.now in omega (arith, c.requires.nodes_are, limits_nodes (trits_in w.trits) w.known.shadowed.proper.in_limits)
 
-pub overflow_add-n : goal.overflow_add-n
-overflow_add-n c = omega (arith, few (goal.at.overflow_add-n c).Start)
+-- section 3's count and its size
+front : (c : After-div_ceil) → let w = c.args.walk.now in Front (section3 (trits_in w.trits) (shadows_in w)) c.args.sizes.nodes (8 * c.div_ceil.result)
+front c = let w = c.args.walk.now in front3 (trits_in w.trits) (shadows_in w) c.requires.nodes_are (omega arith)
 
 pub returns-in_err-marks : goal.returns-in_err-marks
 unfolding given
 returns-in_err-marks c =
-    let p = err_from_is_err_and c.from_residual.result c.from_residual.ensures.1 in
     let w = c.args.walk.now in
-    rw (p.1, p.2) (sym (front_refused (front3 (trits_in w.trits) (shadows_in w) c.requires.nodes_are) (given_from 1 (trits_in w.trits) (shadows_in w)) _ _ c.in_err-marks.ensures))
+    rw (handed c.from_residual.ensures.1) (sym (front_refused (front (goal.at.returns-in_err-marks c).After-div_ceil) (given_from 1 (trits_in w.trits) (shadows_in w)) _ _ c.in_err-marks.ensures))
 
 pub returns-then-not-marks_right : goal.returns-then-not-marks_right
 unfolding given section3
 returns-then-not-marks_right c =
     let w = c.args.walk.now in
     let n = c.requires.nodes_are in
-    sym (contents_wrong (front3 (trits_in w.trits) (shadows_in w) n) (given_from 1 (trits_in w.trits) (shadows_in w)) _ c.in_ok-marks.ensures
+    sym (contents_wrong (front (goal.at.returns-then-not-marks_right c).After-div_ceil) (given_from 1 (trits_in w.trits) (shadows_in w)) _ c.in_ok-marks.ensures
     (c.marks_right.ensures _ _ w.known.shadowed n) c.if-not-marks_right.true)
 
 -- section 3 holds the marks
@@ -71,13 +71,12 @@ unfolding given section3
 behind c =
     let w = c.args.walk.now in
     let n = c.requires.nodes_are in
-    contents_passed (front3 (trits_in w.trits) (shadows_in w) n) (given_from 1 (trits_in w.trits) (shadows_in w)) _ c.in_ok-marks.ensures
+    contents_passed (front (goal.at-After-lay_out-lay c).After-div_ceil) (given_from 1 (trits_in w.trits) (shadows_in w)) _ c.in_ok-marks.ensures
     (c.marks_right.ensures _ _ w.known.shadowed n) c.if-not-marks_right.false
 
 pub returns-in_err-from4 : goal.returns-in_err-from4
 returns-in_err-from4 c =
-    let p = err_from_is_err_and c.from_residual-in_err-from4.result c.from_residual-in_err-from4.ensures.1 in
-    rw (p.1, p.2) (sym (c.in_err-from4.ensures ∙ behind (goal.at.returns-in_err-from4 c).After-lay_out-lay))
+    rw (handed c.from_residual-in_err-from4.ensures.1) (sym (c.in_err-from4.ensures ∙ behind (goal.at.returns-in_err-from4 c).After-lay_out-lay))
 
 pub returns : goal.returns
 returns c =

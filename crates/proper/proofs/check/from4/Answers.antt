@@ -1,6 +1,6 @@
 -- Sections 4 and 5 are compared together.
 use Rattle.std.proofs.Common.{◌≡◌, ◌∙◌, ℕ, sym, ap}
-use Rattle.std.proofs.lemmas.Result.{err_from_is_err_and}
+use Rattle.format.proofs.Handed.{handed}
 use Rattle.format.specs.Faults.{fault, ◌then◌}
 use Rattle.format.specs.Lists.{same}
 use Rattle.format.specs.Image.{bytes, starts, given, section4, section5}
@@ -15,9 +15,8 @@ use Rattle.proper.proofs.check.from4.Goals.{In_ok-firsts, After-both_right}
 pub returns-in_err-firsts : goal.returns-in_err-firsts
 unfolding given
 returns-in_err-firsts c =
-    let p = err_from_is_err_and c.from_residual.result c.from_residual.ensures.1 in
     let w = c.args.walk.now in
-    rw (p.1, p.2) (front_refused (front4 (trits_in w.trits) (shadows_in w) (counted_marked c.requires)) (given_from 2 (trits_in w.trits) (shadows_in w)) _ _ c.in_err-firsts.ensures)
+    rw (handed c.from_residual.ensures.1) (front_refused (front4 (trits_in w.trits) (shadows_in w) (counted_marked c.requires)) (given_from 2 (trits_in w.trits) (shadows_in w)) _ _ c.in_err-firsts.ensures)
 
 -- section 4's contents, and those behind them
 fourth : (c : In_ok-firsts) → let w = c.args.walk.now in let trits = trits_in w.trits in let H = shadows_in w in

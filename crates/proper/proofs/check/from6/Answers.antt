@@ -1,6 +1,6 @@
 -- Each section is taken off the front, and those behind it are left.
 use Rattle.std.proofs.Common.{◌∙◌}
-use Rattle.std.proofs.lemmas.Result.{err_from_is_err_and}
+use Rattle.format.proofs.Handed.{handed}
 use Rattle.samples.specs.Samples.{far, middle, near}
 use Rattle.proper.specs.Held.{trits_in}
 use Rattle.proper.specs.Examined.{given_from}
@@ -12,19 +12,17 @@ sample_section-requires c = (0, far)
 
 pub returns-in_err-after6 : goal.returns-in_err-after6
 returns-in_err-after6 c =
-    let p = err_from_is_err_and c.from_residual.result c.from_residual.ensures.1 in
     let t = c.args.trits.now in
-    rw (p.1, p.2) (λ H C. c.in_err-after6.ensures _ ∙ check_samples (trits_in t) H t.trits_in.few far _)
+    rw (handed c.from_residual.ensures.1) (λ H C. c.in_err-after6.ensures _ ∙ check_samples (trits_in t) H t.trits_in.few far _)
 
 pub sample_section-requires-2 : goal.sample_section-requires-2
 sample_section-requires-2 c = (1, middle)
 
 pub returns-in_err-after7 : goal.returns-in_err-after7
 returns-in_err-after7 c =
-    let p = err_from_is_err_and c.from_residual-in_err-after7.result c.from_residual-in_err-after7.ensures.1 in
     let t = c.args.trits.now in
     let few = t.trits_in.few in
-    rw (p.1, p.2) (λ H C.
+    rw (handed c.from_residual-in_err-after7.ensures.1) (λ H C.
     c.in_err-after7.ensures _ ∙ check_samples (trits_in t) H few middle _
     ∙ c.in_ok-after6.ensures (given_from 4 (trits_in t) H) ∙ check_samples (trits_in t) H few far _)
 
@@ -33,10 +31,9 @@ sample_section-requires-3 c = (2, near)
 
 pub returns-in_err-after8 : goal.returns-in_err-after8
 returns-in_err-after8 c =
-    let p = err_from_is_err_and c.from_residual-in_err-after8.result c.from_residual-in_err-after8.ensures.1 in
     let t = c.args.trits.now in
     let few = t.trits_in.few in
-    rw (p.1, p.2) (λ H C.
+    rw (handed c.from_residual-in_err-after8.ensures.1) (λ H C.
     c.in_err-after8.ensures _ ∙ check_samples (trits_in t) H few near _
     ∙ c.in_ok-after7.ensures (given_from 5 (trits_in t) H) ∙ check_samples (trits_in t) H few middle _
     ∙ c.in_ok-after6.ensures (given_from 4 (trits_in t) H) ∙ check_samples (trits_in t) H few far _)

@@ -1,6 +1,6 @@
 -- The section is the pairs that its trits give.
 use Rattle.std.proofs.Common.{◌∙◌, ◌*◌, ◌+◌, ◌/◌, ℕ, sym, ap}
-use Rattle.std.proofs.lemmas.Result.{err_from_is_err_and}
+use Rattle.format.proofs.Handed.{handed}
 use Rattle.samples.specs.Samples.{sample_section}
 use Rattle.proper.specs.Held.{trits_in}
 use Rattle.proper.proofs.OpenLaws.{Front, front_refused, contents_wrong, contents_passed}
@@ -16,8 +16,7 @@ front c = let x = c.args in front_samples (trits_in x.trits.now) x.plan.step x.p
 
 pub returns-in_err-part : goal.returns-in_err-part
 returns-in_err-part c =
-    let p = err_from_is_err_and c.from_residual.result c.from_residual.ensures.1 in
-    rw (p.1, p.2) (λ ss. front_refused (front (goal.at.returns-in_err-part c).Start) ss _ _ c.in_err-part.ensures)
+    rw (handed c.from_residual.ensures.1) (λ ss. front_refused (front (goal.at.returns-in_err-part c).Start) ss _ _ c.in_err-part.ensures)
 
 pub samples_right-requires : goal.samples_right-requires
 samples_right-requires c =

@@ -1,6 +1,7 @@
 -- Each return is one fault of the front, or none.
 use Rattle.std.proofs.Common.{◌≡◌, ◌∙◌, sym, arith, length-drop}
-use Rattle.std.proofs.lemmas.Result.{err_from_is_err_and, MatchResult-weaker}
+use Rattle.std.proofs.lemmas.Result.{MatchResult-weaker}
+use Rattle.format.proofs.Handed.{handed}
 use Rattle.format.specs.Proper.{count_of, SectionGives}
 use Rattle.format.specs.Answers.{refusal_number}
 use Rattle.format.proofs.OneToOne.{refusal_some}
@@ -15,9 +16,8 @@ gives c = opens_gives (refusal_number c.args.code) c.args.entries c.args.size c.
 
 pub returns-in_err-found : goal.returns-in_err-found
 returns-in_err-found c =
-    let p = err_from_is_err_and c.from_residual.result c.from_residual.ensures.1 in
     let e = c.in_err-found.ensures in
-    rw (p.1, p.2, e.0) (sym ((gives (goal.at.returns-in_err-found c).Start).count_missing e.1))
+    rw (handed c.from_residual.ensures.1, e.0) (sym ((gives (goal.at.returns-in_err-found c).Start).count_missing e.1))
 
 pub returns-then-found-entries : goal.returns-then-found-entries
 returns-then-found-entries c =

@@ -4,9 +4,6 @@ use Rattle.format.proofs.CheckLaws.{limits_nodes}
 use Rattle.proper.proofs.MapLaws.{words_wrong, words_same}
 use Rattle.proper.proofs.marked.words_right.Goals as goal
 
-pub overflow_add-w-end : goal.overflow_add-w-end
-overflow_add-w-end c = omega (arith, limits_nodes c.requires.0 c.requires.2.in_limits)
-
 pub bounds-map-w : goal.bounds-map-w
 bounds-map-w c = omega (arith, limits_nodes c.requires.0 c.requires.2.in_limits)
 
