@@ -4,9 +4,9 @@ use native.Mathlib.Nat.{zero-add}
 use native.Mathlib.Numerals.{add-one}
 use native.Mathlib.Omega.{arith}
 use mathlib.Core.Path.{◌≡◌, sym, ap, ◌∙◌}
-use mathlib.Core.List.{List}
-use lib.ListN.{length, get_or, take, drop, set, length-set, length-append, length-drop, take-append-drop}
-use lib.Seq.{paste, paste-suc, take_all, set_comm, length-take-le, take_at, drop_at, drop-drop}
+use mathlib.Core.List.{List, append-nil}
+use lib.ListN.{length, get_or, take, drop, set, length-set, length-append, length-drop, drop_of_length-le, take-append-drop}
+use lib.Seq.{paste, paste-zero, paste-suc, take_all, set_comm, length-take-le, take_at, drop_at, drop-drop}
 use Rattle.format.specs.Lists.{over, one_to}
 use Rattle.format.proofs.Laws.{length_run, get_or_run}
 use Rattle.little.specs.Put.{put_at}
@@ -60,24 +60,30 @@ over_end ws old vs w e r d =
     let l : length (take w ws) ≡ w = length-take-le w ws (omega arith) in
     rw (take_at (take w ws) (drop w old) w l, ← drop-drop, drop_at (take w ws) (drop w old) w l, drop-drop, e, ← d, take-append-drop)
 
--- ---- 1 to c from a place on
+-- ---- 1, 2, 3 and so on, a number in each word
 
 -- the first i of them stand over `old`
-pub record Listed (old : List ℕ) (at c : ℕ) (table : List ℕ) (i : ℕ) : Type 0 where
-  pub room : at + c ≤ length old
-  pub upto : i ≤ c
-  pub are : table ≡ paste old at (one_to c) i
+pub record Listed (old table : List ℕ) (i : ℕ) : Type 0 where
+  pub upto : i ≤ length old
+  pub are : table ≡ paste old 0 (one_to (length old)) i
 
-module _ {old : List ℕ} {at c : ℕ} {table : List ℕ} {i : ℕ} (r : Listed old at c table i) where
-  pub listed_next : i < c → Listed old at c (set table (at + i) (i + 1)) (i + 1)
+pub listed_none : (old : List ℕ) → Listed old old 0
+listed_none old = record { upto = omega arith; are = paste-zero old 0 (one_to (length old)) }
+
+module _ {old table : List ℕ} {i : ℕ} (r : Listed old table i) where
+  pub listed_next : i < length old → Listed old (set table i (i + 1)) (i + 1)
   listed_next h =
-      let v : i + 1 ≡ get_or (one_to c) i 0 = omega (arith, get_or_run 1 c i 0 h) in
+      let n : ℕ = length old in
+      let v : i + 1 ≡ get_or (one_to n) i 0 = omega (arith, get_or_run 1 n i 0 h) in
       record {
-        room = r.room;
         upto = omega arith;
-        are = ap (λ (l : List ℕ). set l (at + i) (i + 1)) r.are ∙ ap (set (paste old at (one_to c) i) (at + i)) v
-            ∙ paste-suc old at (one_to c) i 0 (omega (arith, r.room)) (omega (arith, length_run 1 c)) ∙ ap (paste old at (one_to c)) (sym (add-one i));
+        are = ap (λ (l : List ℕ). set l i (i + 1)) r.are ∙ ap (λ (x : ℕ). set (paste old 0 (one_to n) i) x (i + 1)) (sym (zero-add i))
+            ∙ ap (set (paste old 0 (one_to n) i) (0 + i)) v ∙ paste-suc old 0 (one_to n) i 0 (omega arith) (omega (arith, length_run 1 n))
+            ∙ ap (paste old 0 (one_to n)) (sym (add-one i));
       }
 
-  pub listed_all : c ≤ i → table ≡ put_at old at (one_to c)
-  listed_all h = let e : i ≡ c = omega (arith, r.upto) in rw (r.are, e, take_all c (one_to c) (omega (arith, length_run 1 c)), length_run 1 c)
+  pub listed_all : length old ≤ i → table ≡ one_to (length old)
+  listed_all h =
+      let n : ℕ = length old in
+      let e : i ≡ n = omega (arith, r.upto) in
+      rw (r.are, e, take_all n (one_to n) (omega (arith, length_run 1 n)), zero-add, drop_of_length-le old {i = n} (omega arith), append-nil)

@@ -2,7 +2,7 @@
 // table, and after them come the roots.
 #![tactic(auto)]
 
-ghost use Rattle.std.specs.Prelude.{◌≡◌, ◌+◌, ◌-◌, ◌≤◌, ◌<◌, length, set};
+ghost use Rattle.std.specs.Prelude.{◌≡◌, ◌+◌, ◌-◌, ◌≤◌, ◌<◌, length};
 ghost use Rattle.format.specs.Lists.{one_to, over};
 ghost use Rattle.format.specs.Proper.{trits_of, shadows_of};
 ghost use Rattle.format.specs.Unpack.{unpack_outcome, unpack_leaves};
@@ -69,13 +69,13 @@ fn put_rows(image: &Image, table: &mut [u16])
     table[end - roots] = roots as u16;
 }
 
-// Puts the roots 1 to `c` from word `at` on.
-fn put_roots(table: &mut [u16], at: usize, c: usize)
-    requires { (at + c ≤ length table.old) × (c < 65536) }
-    ensures { table.new ≡ put_at table.old at (one_to c) }
+// Puts the roots, from 1 on, one in each word.
+fn put_roots(table: &mut [u16])
+    requires { length table.old < 65536 }
+    ensures { table.new ≡ one_to (length table.old) }
 {
-    for i in 0..c {
-        table[at + i] = (i + 1) as u16;
+    for (i, word) in table.iter_mut().enumerate() {
+        *word = (i + 1) as u16;
     }
 }
 
@@ -86,7 +86,8 @@ fn put_table(image: &Image, table: &mut [u16])
 {
     let roots = image.lay.roots;
     put_rows(image, table);
-    put_roots(table, image.lay.trits - roots + 1, roots);
+    let at = image.lay.trits - roots + 1;
+    put_roots(&mut table[at..at + roots]);
 }
 
 // Unpacks an image into a lent table, in level order.

@@ -1,15 +1,14 @@
 -- A refused image, a table too short, or the table.
 use Rattle.std.proofs.Common.{ℕ, ap, ◌∙◌, List, arith}
-use Rattle.std.proofs.lemmas.Result.{err_from_is_err_and}
 use Rattle.format.specs.Lists.{over}
+use Rattle.format.proofs.Handed.{handed}
 use Rattle.unpacking.specs.Standing.{table_of}
 use Rattle.unpacking.proofs.OutcomeLaws.{unpack_refused, unpack_short, unpack_whole}
 use Rattle.unpacking.proofs.unpack.Goals as goal
 
 pub returns-in_err-image : goal.returns-in_err-image
 returns-in_err-image c =
-    let p = err_from_is_err_and c.from_residual.result c.from_residual.ensures.1 in
-    rw (p.1, p.2) (unpack_refused c.args.image.now c.args.table.now c.in_err-image.field-0.0 c.in_err-image.ensures)
+    rw (handed c.from_residual.ensures.1) (unpack_refused c.args.image.now c.args.table.now c.in_err-image.field-0.0 c.in_err-image.ensures)
 
 pub returns-then-table-trits : goal.returns-then-table-trits
 returns-then-table-trits c =
