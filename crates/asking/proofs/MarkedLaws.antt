@@ -10,15 +10,18 @@ use lib.ListN.{length, get_or, length-append}
 use Rattle.format.specs.Lists.{bit, count_in}
 use Rattle.format.specs.Trits.{rank}
 use Rattle.format.specs.Image.{node_count, marked, marks, mark_words, mark_samples, marked_nodes, starts, group, grouped}
-use Rattle.format.specs.Proper.{ProperTrits}
+use Rattle.format.specs.Proper.{ProperTrits, trits_of, shadows_of}
 use Rattle.format.proofs.Laws.{rank_suc, rank_count}
 use Rattle.format.proofs.Digits.{digits_at}
 use Rattle.format.proofs.Sizes.{length_marks, length_group, grouped_suc, grouped_le}
 use Rattle.format.proofs.CheckLaws.{shadow_nodes}
+use Rattle.format.proofs.OnImage.{proper}
+use Rattle.trits.specs.declared.Layout.{Layout}
 use Rattle.format.proofs.Marks.{marks_at, mark_bit, marks_before, starts_at}
 use Rattle.proper.proofs.OnesLaws.{length_marked}
 use Rattle.asking.specs.declared.index.Group.{Group}
 use Rattle.asking.specs.Bounds.{bounds}
+use Rattle.asking.specs.Nodes.{NodeIn}
 
 one_bit : (b : Bool) → bit (eqb (bit b) 1) ≡ bit b
 one_bit true = refl
@@ -80,3 +83,7 @@ group_counted {trits} {H} p a h e =
     ap length (grouped_suc trits H (a - 1)) ∙ length-append (grouped trits H (a - 1)) (group trits H (suc (a - 1)))
     ∙ ap (λ (k : ℕ). length (grouped trits H (a - 1)) + k) (length_group trits H p.paired (suc (a - 1)) ∙ ap (λ (k : ℕ). count_in k H) s) in
     rw e (record { first_is = refl; next_is = next; inside = grouped_le trits H p.paired (suc (a - 1)) })
+
+pub node_counted : {image : List ℕ} {lay : Layout} {a : ℕ} → NodeIn image lay a → {g : Group} → g ≡ bounds (trits_of image) (shadows_of image) (a - 1)
+    → Counted (trits_of image) (shadows_of image) a g
+node_counted {image} {lay} {a} n e = group_counted (proper n.laid.whole) a n.low e

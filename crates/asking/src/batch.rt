@@ -1,6 +1,6 @@
 // A batch of questions: its own refusals, the image's, then the questions one by one.
 ghost use Rattle.std.specs.Prelude.{◌≡◌, ◌+◌, ◌/◌, ◌%◌, ◌≤◌, ◌<◌, length, Ok, Err, MatchResult};
-ghost use Rattle.format.specs.Lists.{over};
+ghost use Rattle.format.specs.Lists.{bit, over};
 ghost use Rattle.format.specs.Question.{says};
 ghost use Rattle.format.specs.Answers.{answer_numbers};
 ghost use Rattle.format.specs.Batch.{three_words, good, batch_outcome, batch_leaves, TallyRoom};
@@ -8,10 +8,10 @@ ghost use Rattle.little.specs.Put.{put_at};
 ghost use Rattle.asking.specs.BatchSteps.{replies, reply_at, good_one, answer_words, Roomy, counted};
 
 use crate::question::answer;
-use format::{Answer, Refusal, Tally};
+use format::{Answer, Refusal, Tally, code};
 use trits::image::Image;
 
-// What a batch answers, and what becomes of the tally.
+// What a batch answers, and what becomes of the tally: both, since a refused batch keeps its tally.
 #[derive(Clone, Copy)]
 pub struct Batched {
     pub asked: Result<(), Refusal>,
@@ -27,7 +27,8 @@ pub struct Done {
 
 // ---- one question
 
-// Puts three words from `at` on.
+// Puts three words from `at` on: numbers, as the answer buffer holds them. The place stays beside the buffer, since a part of it would be put back
+// in every proof above.
 fn put_three(answers: &mut [u32], at: usize, code: u32, value: u32, sort: u32)
     requires { at + 2 < length answers.old }
     ensures { answers.new ≡ put_at answers.old at (three_words (says code value sort)) }
@@ -37,27 +38,27 @@ fn put_three(answers: &mut [u32], at: usize, code: u32, value: u32, sort: u32)
     answers[at + 2] = sort;
 }
 
-// Puts an answer's words, code, value and sort, from `at` on: 1 where the code is 0, else 0.
-fn put_answer(answers: &mut [u32], at: usize, answer: Result<Answer, Refusal>) -> usize
+// Puts an answer's words, code, value and sort, from `at` on.
+fn put_answer(answers: &mut [u32], at: usize, answer: Result<Answer, Refusal>)
     requires { at + 2 < length answers.old }
-    ensures { (result ≡ good_one (answer_numbers answer)) × (answers.new ≡ put_at answers.old at (three_words (answer_numbers answer))) }
+    ensures { answers.new ≡ put_at answers.old at (three_words (answer_numbers answer)) }
 {
     match answer {
         Ok(Answer::Value(v)) => put_three(answers, at, 0, v, 0),
         Ok(Answer::Listed(n)) => put_three(answers, at, 0, n.node, u32::from(n.sort)),
         Err(f) => put_three(answers, at, u32::from(f), 0, 0),
     }
-    usize::from(answer.is_ok())
 }
 
-// Answers a question of three words, and puts the answer from `at` on: 1 where its code is 0, else 0.
-fn ask_one(image: &Image, question: &[u32], answers: &mut [u32], at: usize) -> usize
-    requires { (length question.now ≡ 3) × (at + 2 < length answers.old) }
-    ensures { (result ≡ good_one (reply_at image.now.bytes.now question.now 0))
+// Answers the question of the first three words, and puts the answer from `at` on: whether its code is 0.
+fn ask_one(image: &Image, question: &[u32], answers: &mut [u32], at: usize) -> bool
+    requires { (2 < length question.now) × (at + 2 < length answers.old) }
+    ensures { (bit result ≡ good_one (reply_at image.now.bytes.now question.now 0))
         × (answers.new ≡ put_at answers.old at (three_words (reply_at image.now.bytes.now question.now 0))) }
 {
     let found = answer(image, question[0], question[1], question[2]);
-    put_answer(answers, at, found)
+    put_answer(answers, at, found);
+    found.is_ok()
 }
 
 // ---- all of them
@@ -70,7 +71,7 @@ fn ask_all(image: &Image, questions: &[u32], answers: &mut [u32]) -> usize
 {
     let mut found = 0;
     for (i, question) in questions.chunks_exact(3).enumerate() {
-        found += ask_one(image, question, answers, 3 * i);
+        found += usize::from(ask_one(image, question, answers, 3 * i));
     }
     found
 }
@@ -144,10 +145,7 @@ pub fn ask(image: &[u8], questions: &[u32], answers: &mut [u32], tally: Tally) -
 {
     let done = batch(image, questions, answers, tally);
     Done {
-        code: match done.asked {
-            Ok(()) => 0,
-            Err(f) => u32::from(f),
-        },
+        code: code(done.asked),
         tally: done.tally,
     }
 }

@@ -72,14 +72,6 @@ fn ones_below(w: u64, i: usize) -> usize
     u64::count_ones(w % (1u64 << i)) as usize
 }
 
-// Bit `i` of a mark word.
-fn mark(w: u64, i: usize) -> usize
-    requires { i < 64 }
-    ensures { result ≡ w / 2 ^ i % 2 }
-{
-    (w >> i) as usize % 2
-}
-
 // The group of node `i + 1`. The sample and the ones below its bit are the marks before it; a node without a mark has an empty group.
 pub fn find_group(image: &Image, i: usize) -> Group
     requires { i < node_count (trits_of image.now.bytes.now) }
@@ -89,7 +81,7 @@ pub fn find_group(image: &Image, i: usize) -> Group
     let r = i % 64;
     let w = word(image, q);
     let before = sample(image, q) + ones_below(w, r);
-    let after = before + mark(w, r);
+    let after = before + marks::mark_in(w, r) as usize;
     let first = start(image, before);
     let next = start(image, after);
     Group { first, next }

@@ -1,5 +1,6 @@
 // The kinds of questions.
-ghost use Rattle.asking.specs.Kinds.{KindOf};
+ghost use Rattle.std.specs.Prelude.{◌≡◌};
+ghost use Rattle.asking.specs.Kinds.{KindOf, kind_number};
 
 use format::Refusal;
 
@@ -13,6 +14,15 @@ pub enum Kind {
     Operand = 4,
     UseCount = 5,
     User = 6,
+}
+
+// The number of a kind.
+impl From<Kind> for u32 {
+    ghost from_gives = { λ k n. n ≡ kind_number k };
+
+    fn from(kind: Kind) -> u32 {
+        kind as u32
+    }
 }
 
 // The kind with a number.

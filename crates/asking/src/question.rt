@@ -101,7 +101,7 @@ impl<'a> Node<'a> {
         ensures { MatchResult result (λ n. (n.image.now.bytes.now ≡ image.now.bytes.now) × (n.number ≡ a))
             (λ f. (f ≡ FirstOutside) × Beyond (node_count (trits_of image.now.bytes.now)) a) }
     {
-        if a == 0 || image.lay.nodes < a {
+        if !(1..=image.lay.nodes).contains(&a) {
             return Err(Refusal::FirstOutside);
         }
         Ok(Node { image, number: a })
@@ -215,9 +215,14 @@ pub fn answer(image: &Image, kind: u32, a: u32, b: u32) -> Result<Answer, Refusa
         Kind::Trit => trit(image, first, second),
         Kind::Rank => ranked(image, first, second),
         Kind::Select => selected(image, first, second),
-        Kind::OperandCount => Node::find(image, first)?.operands(second),
-        Kind::Operand => Node::find(image, first)?.operand(second),
-        Kind::UseCount => Node::find(image, first)?.uses(second),
-        Kind::User => Node::find(image, first)?.user(second),
+        _ => {
+            let node = Node::find(image, first)?;
+            match kind {
+                Kind::OperandCount => node.operands(second),
+                Kind::Operand => node.operand(second),
+                Kind::UseCount => node.uses(second),
+                _ => node.user(second),
+            }
+        }
     }
 }

@@ -1,6 +1,6 @@
 -- 41, 42, 43, a refused image, or the answers and the sums.
 use Rattle.std.proofs.Common.{arith}
-use Rattle.std.proofs.lemmas.Result.{err_from_is_err_and}
+use Rattle.format.proofs.Handed.{handed}
 use Rattle.format.proofs.BatchLaws.{batch_41, batch_42, batch_43}
 use Rattle.asking.proofs.BatchTurns.{run_refused, found_few, run_whole}
 use Rattle.asking.proofs.batch.run.Goals as goal
@@ -23,8 +23,7 @@ returns-then-not-roomy c =
 pub returns-in_err-image : goal.returns-in_err-image
 returns-in_err-image c =
     let x = c.args in
-    let p = err_from_is_err_and c.from_residual.result c.from_residual.ensures.1 in
-    rw (p.1, p.2)
+    rw (handed c.from_residual.ensures.1)
     (run_refused x.image.now x.questions.now x.answers.now x.tally (omega arith) (omega arith) c.if-not-roomy.ensures c.in_err-image.field-0.0 c.in_err-image.ensures)
 
 pub count-requires : goal.count-requires

@@ -4,10 +4,9 @@ use Rattle.format.specs.Proper.{trits_of, shadows_of}
 use Rattle.format.specs.Question.{answer}
 use Rattle.format.proofs.Replies.{uses_33}
 use Rattle.format.proofs.OnImage.{proper}
-use Rattle.asking.proofs.MarkedLaws.{Counted, group_counted}
+use Rattle.asking.proofs.MarkedLaws.{node_counted}
 use Rattle.asking.proofs.KindLaws.{roots_is, shadows_few, uses_root, uses_real}
 use Rattle.asking.proofs.question.Node.uses.Goals as goal
-use Rattle.asking.proofs.question.Node.uses.Goals.{After-find_group-group}
 
 pub returns-then-b-ne0 : goal.returns-then-b-ne0
 unfolding answer
@@ -16,34 +15,29 @@ returns-then-b-ne0 c =
     let b = n.image.now.bytes.now in
     sym (uses_33 (trits_of b) (shadows_of b) n.number n.is_node.low n.is_node.high c.args.b (omega arith))
 
-counted : (c : After-find_group-group) → let n = c.args.self.now in let b = n.image.now.bytes.now in Counted (trits_of b) (shadows_of b) n.number c.find_group-group.result
-counted c =
-    let n = c.args.self.now.is_node in
-    group_counted (proper n.laid.whole) c.args.self.now.number n.low c.find_group-group.ensures
-
 pub overflow_sub-shadows : goal.overflow_sub-shadows
-overflow_sub-shadows c = omega (arith, counted ((goal.at.overflow_sub-shadows c).After-find_group-group))
+overflow_sub-shadows c = omega (arith, node_counted c.args.self.now.is_node c.find_group-group.ensures)
 
 pub overflow_add-shadows : goal.overflow_add-shadows
 overflow_add-shadows c =
-    omega (arith, counted ((goal.at.overflow_add-shadows c).After-find_group-group), shadows_few (proper c.args.self.now.is_node.laid.whole))
+    omega (arith, node_counted c.args.self.now.is_node c.find_group-group.ensures, shadows_few (proper c.args.self.now.is_node.laid.whole))
 
 pub value-requires : goal.value-requires
 value-requires c =
-    omega (arith, counted ((goal.at.value-requires c).After-find_group-group), shadows_few (proper c.args.self.now.is_node.laid.whole))
+    omega (arith, node_counted c.args.self.now.is_node c.find_group-group.ensures, shadows_few (proper c.args.self.now.is_node.laid.whole))
 
 pub value-requires-2 : goal.value-requires-2
 value-requires-2 c =
-    omega (arith, counted ((goal.at.value-requires-2 c).After-find_group-group), shadows_few (proper c.args.self.now.is_node.laid.whole))
+    omega (arith, node_counted c.args.self.now.is_node c.find_group-group.ensures, shadows_few (proper c.args.self.now.is_node.laid.whole))
 
 pub returns-then-self : goal.returns-then-self
 returns-then-self c =
     let n = c.args.self.now.is_node in
     c.value.ensures
-    ∙ uses_real n c.if-b-ne0.false (omega (arith, roots_is n.laid)) (omega (arith, counted ((goal.at.returns-then-self c).After-find_group-group)))
+    ∙ uses_real n c.if-b-ne0.false (omega (arith, roots_is n.laid)) (omega (arith, node_counted c.args.self.now.is_node c.find_group-group.ensures))
 
 pub returns : goal.returns
 returns c =
     let n = c.args.self.now.is_node in
     c.value-2.ensures
-    ∙ uses_root n c.if-b-ne0.false (omega (arith, roots_is n.laid)) (omega (arith, counted ((goal.at.returns c).After-find_group-group)))
+    ∙ uses_root n c.if-b-ne0.false (omega (arith, roots_is n.laid)) (omega (arith, node_counted c.args.self.now.is_node c.find_group-group.ensures))
