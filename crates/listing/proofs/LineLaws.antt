@@ -42,10 +42,10 @@ module _ {was : List ℕ} {at : ℕ} {whole now : List ℕ} {end : ℕ} (s : ℕ
 
 -- ---- the neighbours of a node
 
-pub begin_neighbours : (image : List ℕ) (kind i : ℕ) {count : ℕ} {words : List ℕ} {at : ℕ} → count ≡ (answer (trits_of image) (shadows_of image) kind i 0).value
-    → Room words at (neighbours image kind i) → Left words at (neighbours image kind i) words at (parts_from (neighbour_at image kind i) count 0)
+pub begin_neighbours : (image : List ℕ) (kind each i : ℕ) {count : ℕ} {words : List ℕ} {at : ℕ} → count ≡ (answer (trits_of image) (shadows_of image) kind i 0).value
+    → Room words at (neighbours image kind each i) → Left words at (neighbours image kind each i) words at (parts_from (neighbour_at image each i) count 0)
 unfolding neighbours
-begin_neighbours image kind i {count} e r = begin (parts_from (neighbour_at image kind i) count 0) (rw (← e) (parts_all (neighbour_at image kind i) count)) r
+begin_neighbours image kind each i {count} e r = begin (parts_from (neighbour_at image each i) count 0) (rw (← e) (parts_all (neighbour_at image each i) count)) r
 
 shift : {A : Type 0} (g : ℕ → A) (a n : ℕ) → map g (run (suc a) n) ≡ map (λ (j : ℕ). g (suc j)) (run a n)
 shift g a zero = refl
@@ -55,14 +55,14 @@ each_element : {A : Type 0} (f : Option A → List ℕ) (es : List A) → map (�
 each_element f [] = refl
 each_element f (e ∷ es) = ap (λ (l : List (List ℕ)). f (some e) ∷ l) (shift (λ (j : ℕ). f (get_elem? (e ∷ es) j)) 0 (length es) ∙ each_element f es)
 
--- what the questions of a kind and the next say of a node's edges
-neighbours_are : (image : List ℕ) (kind i : ℕ) (es : List Edge) (or33 : Option Edge → Reply)
+-- what the questions of two kinds say of a node's edges
+neighbours_are : (image : List ℕ) (kind each i : ℕ) (es : List Edge) (or33 : Option Edge → Reply)
     → answer (trits_of image) (shadows_of image) kind i 0 ≡ plain (length es)
-    → ((b : ℕ) → answer (trits_of image) (shadows_of image) (kind + 1) i b ≡ or33 (numbered es b))
-    → neighbours image kind i ≡ join (map (λ (e : Edge). neighbour_text (or33 (some e))) es)
+    → ((b : ℕ) → answer (trits_of image) (shadows_of image) each i b ≡ or33 (numbered es b))
+    → neighbours image kind each i ≡ join (map (λ (e : Edge). neighbour_text (or33 (some e))) es)
 unfolding neighbours
-neighbours_are image kind i es or33 e each =
-    (λ t. join (map (λ (b : ℕ). neighbour_text (each b t)) (one_to (e t).value)))
+neighbours_are image kind each i es or33 e given =
+    (λ t. join (map (λ (b : ℕ). neighbour_text (given b t)) (one_to (e t).value)))
     ∙ ap join (shift (λ (b : ℕ). neighbour_text (or33 (numbered es b))) 0 (length es) ∙ each_element (λ (o : Option Edge). neighbour_text (or33 o)) es)
 
 module _ (image : List ℕ) (i : ℕ) (low : 1 ≤ i) (high : i ≤ node_count (trits_of image)) where
@@ -72,19 +72,19 @@ module _ (image : List ℕ) (i : ℕ) (low : 1 ≤ i) (high : i ≤ node_count (
   abbrev hs : List ℕ
   hs = shadows_of image
 
-  operands_are : neighbours image 3 i ≡ join (map operand_text (operand_edges ts hs i))
+  operands_are : neighbours image 3 4 i ≡ join (map operand_text (operand_edges ts hs i))
   unfolding neighbour_text operand_text
-  operands_are = neighbours_are image 3 i (operand_edges ts hs i) operand_or33 (kind_3 ts hs i low high) (kind_4 ts hs i low high)
+  operands_are = neighbours_are image 3 4 i (operand_edges ts hs i) operand_or33 (kind_3 ts hs i low high) (kind_4 ts hs i low high)
 
-  users_are : neighbours image 5 i ≡ join (map user_text (use_edges ts hs i))
+  users_are : neighbours image 5 6 i ≡ join (map user_text (use_edges ts hs i))
   unfolding neighbour_text user_text
-  users_are = neighbours_are image 5 i (use_edges ts hs i) user_or33 (kind_5 ts hs i low high) (kind_6 ts hs i low high)
+  users_are = neighbours_are image 5 6 i (use_edges ts hs i) user_or33 (kind_5 ts hs i low high) (kind_6 ts hs i low high)
 
   -- the line of a node
   pub begin_node : {words : List ℕ} {at : ℕ} → Room words at (node_line ts hs i)
-      → Left words at (node_line ts hs i) words at (decimal i ∷ (text ":" ++ neighbours image 3 i) ∷ (text " |" ++ neighbours image 5 i) ∷ newline ∷ [])
+      → Left words at (node_line ts hs i) words at (decimal i ∷ (text ":" ++ neighbours image 3 4 i) ∷ (text " |" ++ neighbours image 5 6 i) ∷ newline ∷ [])
   unfolding node_line
-  begin_node r = begin (decimal i ∷ (text ":" ++ neighbours image 3 i) ∷ (text " |" ++ neighbours image 5 i) ∷ newline ∷ []) (rw (operands_are, users_are)) r
+  begin_node r = begin (decimal i ∷ (text ":" ++ neighbours image 3 4 i) ∷ (text " |" ++ neighbours image 5 6 i) ∷ newline ∷ []) (rw (operands_are, users_are)) r
 
 -- ---- the lines of all nodes
 

@@ -3,7 +3,7 @@ use Prim.Native.Nat.{ℕ, suc, ◌+◌, ◌-◌, ◌/◌, ◌%◌, ◌≤◌, �
 use native.Mathlib.Nat.{add-zero, sub-zero}
 use native.Mathlib.Numerals.{add-one}
 use native.Mathlib.Omega.{arith}
-use mathlib.Core.Path.{◌≡◌, sym, ap, ◌∙◌}
+use mathlib.Core.Path.{◌≡◌, sym, ap, ◌∙◌, subst}
 use mathlib.Core.Bool.{Bool, true, false}
 use mathlib.Core.List.{List, [], ◌∷◌, ◌++◌, map, append_assoc, append-nil}
 use lib.ListN.{length, length-append}
@@ -93,6 +93,14 @@ module _ (f : ℕ → List ℕ) (n k : ℕ) {was : List ℕ} {at : ℕ} {whole n
 
   pub parts_done : n ≤ k → Wrote was at whole end now
   parts_done h = let m : n - k ≡ 0 = omega arith in finish (rw m at l)
+
+-- part b, where the parts from b on are left
+pub part_at : (f : ℕ → List ℕ) (n b : ℕ) {was : List ℕ} {at : ℕ} {whole now : List ℕ} {end : ℕ} → Left was at whole now end (parts_from f n (b - 1))
+    → 1 ≤ b → b ≤ n → {word : List ℕ} → word ≡ f b → Left was at whole now end (word ∷ parts_from f n (b + 1 - 1))
+part_at f n b {was} {at} {whole} {now} {end} l low high {word} e =
+    let p : b ≡ b - 1 + 1 = omega arith in
+    let q : b - 1 + 1 ≡ b + 1 - 1 = omega arith in
+    subst (λ (k : ℕ). Left was at whole now end (word ∷ parts_from f n k)) q (part_next f n (b - 1) l (omega arith) (e ∙ ap f p))
 
 -- ---- digits
 

@@ -5,6 +5,7 @@ ghost use Rattle.format.specs.Image.{node_count};
 ghost use Rattle.format.specs.Proper.{trits_of, shadows_of};
 ghost use Rattle.format.specs.Answers.{answer_numbers};
 ghost use Rattle.format.specs.Listing.{node_line, count_line};
+ghost use Rattle.asking.specs.Kinds.{kind_number};
 ghost use Rattle.listing.specs.Wrote.{Room, Wrote};
 ghost use Rattle.listing.specs.Neighbours.{neighbour_text, neighbours};
 
@@ -47,16 +48,16 @@ fn put_neighbour(text: &mut Text, found: Result<Answer, Refusal>)
     }
 }
 
-// Puts a sign, and behind it the operands of node `i` or its users: `kind` counts them, and the next kind gives each.
-fn put_neighbours(text: &mut Text, sign: &[u8], image: &Image, kind: u32, i: u32)
-    requires { (kind < 6) × Room text.old.bytes.now text.old.end (sign.now ++ neighbours image.now.bytes.now kind i) }
-    ensures wrote { Wrote text.old.bytes.now text.old.end (sign.now ++ neighbours image.now.bytes.now kind i) text.new.end text.new.bytes.now }
+// Puts a sign, and behind it the operands of node `i` or its users: one kind of question counts them, and the other gives each.
+fn put_neighbours(text: &mut Text, sign: &[u8], image: &Image, count: Kind, each: Kind, i: u32)
+    requires { Room text.old.bytes.now text.old.end (sign.now ++ neighbours image.now.bytes.now (kind_number count) (kind_number each) i) }
+    ensures wrote { Wrote text.old.bytes.now text.old.end (sign.now ++ neighbours image.now.bytes.now (kind_number count) (kind_number each) i) text.new.end text.new.bytes.now }
     ensures same { text.new.bytes.ghost_name ≡ text.old.bytes.ghost_name }
 {
     text.put(sign);
-    let count = value(answer(image, kind, i, 0));
-    for b in 0..count {
-        put_neighbour(text, answer(image, kind + 1, i, b + 1));
+    let many = value(answer(image, u32::from(count), i, 0));
+    for b in 1..=many {
+        put_neighbour(text, answer(image, u32::from(each), i, b));
     }
 }
 
@@ -68,8 +69,8 @@ fn put_node(text: &mut Text, image: &Image, i: u32)
     ensures same { text.new.bytes.ghost_name ≡ text.old.bytes.ghost_name }
 {
     text.put_decimal(i as usize);
-    put_neighbours(text, b":", image, Kind::OperandCount as u32, i);
-    put_neighbours(text, b" |", image, Kind::UseCount as u32, i);
+    put_neighbours(text, b":", image, Kind::OperandCount, Kind::Operand, i);
+    put_neighbours(text, b" |", image, Kind::UseCount, Kind::User, i);
     text.put(b"\n");
 }
 
@@ -82,8 +83,8 @@ pub fn put_nodes(text: &mut Text, image: &Image)
         text.new.end text.new.bytes.now }
     ensures same { text.new.bytes.ghost_name ≡ text.old.bytes.ghost_name }
 {
-    for i in 0..image.lay.nodes {
-        put_node(text, image, (i + 1) as u32);
+    for i in 1..=image.lay.nodes {
+        put_node(text, image, i as u32);
     }
 }
 

@@ -1,4 +1,5 @@
-// A text being written into lent bytes, word after word.
+// A text being written into lent bytes, word after word. Each contract says too that the text still holds the bytes that were lent (`same`): only so
+// does the lender learn what they hold in the end. Numbers are put by hand, since `write!` says what it wrote only of a String, which needs the heap.
 ghost use Rattle.std.specs.Prelude.{◌≡◌};
 ghost use Rattle.format.specs.Listing.{decimal_in, decimal, refusal};
 ghost use Rattle.format.specs.Answers.{refusal_number};

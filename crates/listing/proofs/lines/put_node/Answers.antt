@@ -1,5 +1,4 @@
 -- The number, the operands, the users, and the end of the line. Assumes nothing.
-use Rattle.std.proofs.Common.{arith}
 use Rattle.listing.proofs.TextLaws.{fits, next, finish}
 use Rattle.listing.proofs.LineLaws.{begin_node}
 use Rattle.listing.proofs.lines.put_node.Goals as goal
@@ -9,12 +8,12 @@ put_decimal-requires c = let x = c.requires in fits (begin_node c.args.image.now
 
 pub put_neighbours-requires : goal.put_neighbours-requires
 put_neighbours-requires c =
-    let x = c.requires in (omega arith, fits (next (begin_node c.args.image.now.bytes.now c.args.i x.0 x.1 x.2) c.put_decimal.ensures.wrote))
+    let x = c.requires in fits (next (begin_node c.args.image.now.bytes.now c.args.i x.0 x.1 x.2) c.put_decimal.ensures.wrote)
 
 pub put_neighbours-requires-2 : goal.put_neighbours-requires-2
 put_neighbours-requires-2 c =
     let x = c.requires in
-    (omega arith, fits (next (next (begin_node c.args.image.now.bytes.now c.args.i x.0 x.1 x.2) c.put_decimal.ensures.wrote) c.put_neighbours.ensures.wrote))
+    fits (next (next (begin_node c.args.image.now.bytes.now c.args.i x.0 x.1 x.2) c.put_decimal.ensures.wrote) c.put_neighbours.ensures.wrote)
 
 pub put-requires : goal.put-requires
 put-requires c =

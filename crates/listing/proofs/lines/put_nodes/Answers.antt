@@ -1,6 +1,6 @@
 -- The line of the next node is left, and is put. Assumes nothing.
 use Rattle.std.proofs.Common.{arith, refl, ◌∙◌}
-use Rattle.listing.proofs.TextLaws.{fits, next, part_next}
+use Rattle.listing.proofs.TextLaws.{fits, next, part_at, parts_done}
 use Rattle.listing.proofs.LineLaws.{counts_small, nodes_are, begin_nodes}
 use Rattle.listing.proofs.lines.put_nodes.Goals as goal
 
@@ -14,11 +14,18 @@ pub put_node-requires : goal.put_node-requires
 put_node-requires c = (
   omega arith,
   omega (arith, nodes_are c.args.image.now.bytes.now c.args.image.now.laid.is),
-  fits (part_next _ _ _ c.loop-i.invariant.left c.loop-i-test.true refl),
+  fits (part_at _ _ _ c.loop-i.invariant.left (omega arith) c.loop-i-test.true refl),
 )
 
 pub loop-i-preserved : goal.loop-i-preserved
 loop-i-preserved c = record {
-  left = next (part_next _ _ _ c.loop-i.invariant.left c.loop-i-test.true refl) c.put_node.ensures.wrote;
+  left = next (part_at _ _ _ c.loop-i.invariant.left (omega arith) c.loop-i-test.true refl) c.put_node.ensures.wrote;
   same = c.put_node.ensures.same ∙ c.loop-i.invariant.same;
 }
+
+pub returns-clause-wrote : goal.returns-clause-wrote
+returns-clause-wrote c = parts_done _ _ _ c.loop-i.invariant.left (omega arith)
+
+pub returns-2-clause-wrote : goal.returns-2-clause-wrote
+returns-2-clause-wrote c =
+    parts_done _ _ _ (next (part_at _ _ _ c.loop-i.invariant.left (omega arith) c.loop-i-test.true refl) c.put_node.ensures.wrote) (omega arith)
