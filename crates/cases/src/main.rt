@@ -97,17 +97,23 @@ fn drawn_packed(rt: &impl Print) -> io::Result<()> {
     pack_in(rt, name, &DRAWN, &mut order, &mut more_work, &mut image)
 }
 
-// 30,000 nodes, all roots, no edges.
+// The table of 30,000 nodes, all roots, no edges.
+fn many() -> [u16; 60002] {
+    let mut table = [0; 60002];
+    table[0] = 30000;
+    table[30001] = 30000;
+    for (root, i) in table[30002..].iter_mut().zip(1..) {
+        *root = i;
+    }
+    table
+}
+
+// That table, packed.
 fn many_packed(rt: &impl Print) -> io::Result<()> {
-    let mut table = [0u16; 60002];
+    let table = many();
     let mut order = [0u16; 30000];
     let mut work = [0u32; 90000];
     let mut image = [0u8; 30000];
-    table[0] = 30000;
-    table[30001] = 30000;
-    for i in 1..30001 {
-        table[30001 + i] = i as u16;
-    }
     print!(rt; "30000 roots: ")?;
     match packing::pack::pack(&table, &mut order, &mut work, &mut image) {
         Err(f) => println!(rt; "{f}"),
@@ -235,7 +241,7 @@ fn ask(
     println!(rt)
 }
 
-// One question about the drawn graph.
+// One question about the drawn graph. Its kind is a number, since one of them is no kind.
 fn one(rt: &impl Print, name: &str, kind: u32, a: u32, b: u32) -> io::Result<()> {
     ask(rt, name, front(&drawn(), 105), &[kind, a, b], NONE)
 }
@@ -265,7 +271,7 @@ fn batches_refused(rt: &impl Print) -> io::Result<()> {
 
 // ---- errors seen in packers
 
-// One question about a table's image.
+// One question about a table's image; its kind is the question's first word.
 fn pack_ask(rt: &impl Print, table: &[u16], kind: u32, a: u32, b: u32) -> io::Result<()> {
     let mut order = [0u16; 12];
     let mut work = [0u32; 36];

@@ -10,7 +10,7 @@ ghost use Rattle.format.specs.Proper.{check_image};
 ghost use Rattle.format.specs.Unpack.{unpack_outcome};
 ghost use Rattle.glouds.specs.Exports.{as_word, pack_export, pack_exported, unpack_export, unpack_exported};
 
-use format::{Refusal, Tally};
+use format::{Refusal, Tally, code};
 
 // A length as it is, or a refusal above the low 32 bits.
 fn word(answer: Result<usize, Refusal>) -> u64
@@ -41,10 +41,7 @@ pub extern "C" fn glouds_pack(
 pub extern "C" fn glouds_check(image: &[u8]) -> u32
     ensures { result ≡ check_image image.now }
 {
-    match proper::check::check(image) {
-        Ok(()) => 0,
-        Err(r) => u32::from(r),
-    }
+    code(proper::check::check(image))
 }
 
 // Unpacks an image: the table's length in words, or a refusal from 21 to 26 or 51.
