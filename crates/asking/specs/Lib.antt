@@ -1,3 +1,4 @@
+-- What the functions of this crate answer each other, over the definitions of `format`.
 pub mod Bounds
 pub mod Nodes
 pub mod Kinds
