@@ -9,14 +9,16 @@ use lib.Dec.{lit<}
 use lib.ListN.{length, get_or, take, drop, set, length-append, get_or-append}
 use lib.Seq.{take-suc, take_all, length-take-le, take-append_seam, drop-append-add, drop-append_seam, drop-drop, get_or-drop, paste-zero, paste-suc}
 use Rattle.std.specs.Prelude.{Ok, Err}
-use Rattle.format.specs.Lists.{over}
+use borrow.Author.Tests.{ne_eqb}
+use Rattle.format.specs.Lists.{bit, over}
 use Rattle.format.specs.Proper.{check_image, trits_of, shadows_of}
-use Rattle.format.specs.Question.{Reply, plain}
+use Rattle.format.specs.Question.{Reply, plain, refused}
 use Rattle.format.specs.Answers.{refusal_number}
 use Rattle.format.specs.Batch.{three_words, good, BatchOutcome, batch_outcome, batch_leaves, TallyRoom}
 use Rattle.format.specs.declared.Refusal.{Refusal}
 use Rattle.format.specs.declared.Tally.{Tally}
 use Rattle.format.proofs.OneToOne.{refusal_some}
+use Rattle.format.proofs.Outcomes.{length_over}
 use Rattle.format.proofs.BatchLaws.{length_answers, answers_at, length_words, good_le, batch_ran_lem, runs_batch, batch_improper}
 use Rattle.little.specs.Put.{put_at}
 use Rattle.asking.specs.BatchSteps.{replies, reply_at, good_one, answer_words, counted}
@@ -44,6 +46,10 @@ set_three l at x y z h =
     ∙ ap (λ (m : List ℕ). set (set m (at + 1) y) (at + 2) z) (paste-suc l at s 0 0 (omega arith) (lit< tt))
     ∙ ap (λ (m : List ℕ). set m (at + 2) z) (paste-suc l at s 1 0 (omega arith) (lit< tt)) ∙ paste-suc l at s 2 0 (omega arith) (lit< tt)
 
+-- a refusal's number is not 0
+pub not_good : (f : Refusal) (code : ℕ) → code ≡ refusal_number f → 0 ≡ good_one (refused code)
+not_good f code e = ap bit (sym (ne_eqb code 0 (λ z. omega (arith, refusal_some f))))
+
 -- the three words of a question, taken off those from `at` on
 module _ (questions question rest : List ℕ) (at : ℕ) (e : drop at questions ≡ question ++ rest) (l : length question ≡ 3) where
   pub rest_is : rest ≡ drop (at + 3) questions
@@ -69,6 +75,9 @@ pub record Answered (rs : List Reply) (old out : List ℕ) (g i : ℕ) : Type 0 
 module _ {rs : List Reply} {old out : List ℕ} {g i : ℕ} (a : Answered rs old out g i) where
   front : length (answer_words (take i rs)) ≡ 3 * i
   front = length_words (take i rs) ∙ ap (λ (k : ℕ). 3 * k) (length-take-le i rs a.upto)
+
+  pub answered_length : length out ≡ length old
+  answered_length = ap length a.are ∙ length_over (answer_words (take i rs)) old (omega (arith, front, a.room, a.upto))
 
   pub answered_few : g ≤ i
   answered_few = omega (arith, a.goods, good_le (take i rs), length-take-le i rs a.upto)

@@ -54,7 +54,7 @@ select_value a trits b h e = rw (le-leb a 2 h, ← e)
 -- ---- places
 
 -- a number up to the count has its place
-never_nothing : (t : ℕ) (xs : List ℕ) (j : ℕ) → 0 < j → j ≤ count_in t xs → none ≡ select t xs j → ⊥
+pub never_nothing : (t : ℕ) (xs : List ℕ) (j : ℕ) → 0 < j → j ≤ count_in t xs → none ≡ select t xs j → ⊥
 never_nothing t xs zero h l e = absurd (omega arith)
 never_nothing t xs (suc j) h l e = none-ne-some _ (e ∙ select_found t xs j l)
 

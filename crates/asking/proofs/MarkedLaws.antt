@@ -1,12 +1,14 @@
 -- From a node to its group: the marks before it, by the sample and the word, and the two starts. Assumes nothing.
 use Prim.Native.Nat.{ℕ, suc, ◌+◌, ◌-◌, ◌*◌, ◌/◌, ◌%◌, ◌^◌, ◌≤◌, ◌<◌}
+use native.Mathlib.Nat.{one-mul}
 use native.Mathlib.Omega.{arith}
 use mathlib.Core.Path.{◌≡◌, refl, sym, ap, ◌∙◌}
 use mathlib.Core.Bool.{Bool, true, false}
 use mathlib.Core.List.{List}
 use lib.Count.{ones}
-use lib.Dec.{eqb}
+use lib.Dec.{eqb, lit<}
 use lib.ListN.{length, get_or, length-append}
+use lib.Pow.{pow_pos, shl_exact}
 use Rattle.format.specs.Lists.{bit, count_in}
 use Rattle.format.specs.Trits.{rank}
 use Rattle.format.specs.Image.{node_count, marked, marks, mark_words, mark_samples, marked_nodes, starts, group, grouped}
@@ -22,6 +24,13 @@ use Rattle.proper.proofs.OnesLaws.{length_marked}
 use Rattle.asking.specs.declared.index.Group.{Group}
 use Rattle.asking.specs.Bounds.{bounds}
 use Rattle.asking.specs.Nodes.{NodeIn}
+
+-- 1 shifted by less than the width
+pub one_shifted : (i : ℕ) → i < 64 → (1 * 2 ^ i) % 2 ^ 64 ≡ 2 ^ i
+one_shifted i h = shl_exact 1 i 64 (lit< tt) (omega arith) ∙ one-mul (2 ^ i)
+
+pub shifted_pos : (i : ℕ) → i < 64 → 0 < (1 * 2 ^ i) % 2 ^ 64
+shifted_pos i h = rw (one_shifted i h) (pow_pos i)
 
 one_bit : (b : Bool) → bit (eqb (bit b) 1) ≡ bit b
 one_bit true = refl

@@ -1,7 +1,7 @@
 -- A number is read from its last byte on and written from its first on, so one law serves every width; what is put behind or over what was put is
 -- one put. Assumes nothing.
 use Prim.Native.Nat.{ℕ, zero, suc, ◌+◌, ◌*◌, ◌/◌, ◌%◌, ◌^◌, ◌≤◌, ◌<◌}
-use native.Mathlib.Nat.{zero-add, suc-add, add_assoc, div-one, pow-zero, pow-succ', pow-suc, div-div-eq-div-mul}
+use native.Mathlib.Nat.{zero-add, suc-add, add_assoc, mul-add, mul_assoc, div-one, one-mul, pow-zero, pow-succ', pow-suc, div-div-eq-div-mul}
 use native.Mathlib.Numerals.{add-one}
 use native.Mathlib.Omega.{arith}
 use mathlib.Core.Path.{◌≡◌, refl, sym, ap, ◌∙◌}
@@ -9,7 +9,7 @@ use mathlib.Core.List.{List, [], ◌∷◌, ◌++◌, append-nil, append_assoc, 
 use lib.Dec.{lit<}
 use lib.ListN.{length, get_or, take, drop, set, length-drop, length-take, length-append, length-set, take-append-drop}
 use Rattle.std.proofs.lemmas.List.{drop_all, nil_from_length}
-use lib.Seq.{drop-drop, drop-cons, drop_at, append_snoc, set_split, length-take-le, take-append-le, drop-append-le, take-append_seam, drop-append-add}
+use lib.Seq.{take-add, drop-drop, drop-cons, drop_at, append_snoc, set_split, length-take-le, take-append-le, drop-append-le, take-append_seam, drop-append-add}
 use Rattle.format.specs.Lists.{horner, low_digits, spread, Below}
 use Rattle.format.specs.Image.{le_bytes, bytes, read}
 use Rattle.format.proofs.Laws.{join_append}
@@ -19,6 +19,16 @@ use Rattle.format.proofs.ImageReads.{number_at}
 use Rattle.little.specs.Put.{put_at}
 
 -- ---- reading
+
+horner_append : (b : ℕ) (xs ys : List ℕ) → horner b (xs ++ ys) ≡ horner b xs + b ^ length xs * horner b ys
+horner_append b [] ys = rw (pow-zero, one-mul, zero-add)
+horner_append b (x ∷ xs) ys = simp (horner_append b xs ys, pow-succ', mul-add, mul_assoc) (omega arith)
+
+-- a number of a + b bytes: its low a, and above them its high b
+pub read_add : (a b at : ℕ) (s : List ℕ) → at + a ≤ length s → read (a + b) at s ≡ read a at s + 256 ^ a * read b (at + a) s
+read_add a b at s h =
+    let l : length (take a (drop at s)) ≡ a = length-take-le a (drop at s) (omega (arith, length-drop at s)) in
+    rw (take-add, horner_append, l, drop-drop)
 
 -- the bytes `left` are still to read, and those behind them make the number so far
 pub record Reading (all left : List ℕ) (n : ℕ) : Type 0 where

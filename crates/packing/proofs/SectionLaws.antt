@@ -7,19 +7,23 @@ use native.Mathlib.Omega.{arith}
 use lib.ListN.{length, take, drop, set, length-append}
 use lib.Seq.{drop-drop}
 use Rattle.format.specs.Lists.{up, horner, spread}
-use Rattle.format.specs.Level.{Walk, walk}
+use Rattle.format.specs.Level.{Walk, level_order, walk}
 use Rattle.format.specs.Trits.{trytes}
 use Rattle.format.specs.Image.{le_bytes, bytes}
 use Rattle.format.proofs.Digits.{gather_at}
 use Rattle.format.proofs.Sizes.{length_bytes}
+use Rattle.format.proofs.Order.{counts}
+use Rattle.format.proofs.Outcomes.{length_words}
 use Rattle.little.specs.Put.{put_at}
 use Rattle.little.proofs.Laws.{put_next}
 use Rattle.packing.specs.Work.{graph_of}
+use Rattle.packing.specs.Walked.{Walked}
 use Rattle.packing.specs.Stream.{Rest, Wrote, Stepped, Took}
 use Rattle.packing.specs.declared.stream.Cursor.{Cursor}
 use Rattle.packing.specs.declared.stream.Trit.{Trit}
 use Rattle.packing.specs.declared.stream.Trit.TheVariants.{End, Real, Shadow}
 use Rattle.format.proofs.Over.{Over, over_next}
+use Rattle.packing.proofs.RunLaws.{are_words, formed}
 
 -- ---- section 1, after i trytes
 
@@ -44,6 +48,17 @@ put_tryte {t} {i = i} p h l {x} said =
     }
 
 -- ---- section 2, after some trits
+
+-- a table has one word more than trits
+pub length_trits : {t : List ℕ} {n : ℕ} {work : List ℕ} → Walked t n work → length t ≡ length (walk (graph_of t)).trits + 1
+unfolding level_order
+length_trits {t} k =
+    omega (
+      arith,
+      (counts (graph_of t) (record { formed = formed k.sized; all_reached = sym k.held.tail_is ∙ sym k.sized.many })).size,
+      length_words (graph_of t),
+      ap length (are_words k.sized),
+    )
 
 -- the shadows `done` stand in the first p bytes
 pub record Shadowing (t : List ℕ) (n : ℕ) (out : List ℕ) (c : Cursor) (p : ℕ) : Type 0 where
@@ -80,7 +95,7 @@ module _ {t : List ℕ} {n : ℕ} {out : List ℕ} {c : Cursor} {p : ℕ} (s : S
       rest = w.rest;
     }
 
-  no_shadow : {a : ℕ} {d : Cursor} → Wrote t n a [] s.next d → Shadowing t n out d p
+  pub no_shadow : {a : ℕ} {d : Cursor} → Wrote t n a [] s.next d → Shadowing t n out d p
   no_shadow w = moved w out p s.behind refl (s.are ∙ ap (λ (x : List ℕ). bytes 2 x ++ s.behind) (sym (append-nil s.done))) (omega arith)
 
   pub other_trit : (r : Trit) {d : Cursor} → ((h : ℕ) → r ≡ Shadow h → ⊥) → Stepped t n s.next (Some r) d → Shadowing t n out d p

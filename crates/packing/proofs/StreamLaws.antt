@@ -190,6 +190,11 @@ module _ {t : List ℕ} {n : ℕ} {left : Walk} {c : Cursor} (r : Rest t n left 
       past = λ h. absurd (omega (arith, upto));
     }
 
+    pub ones_small : c.ones ≤ n
+    ones_small =
+        let o = onto_trans (onto_see v so) onto in
+        omega (arith, r.stands.ones, ap (λ (x : Walk). length x.queue) o.is, length-append so.queue o.more.queue, k.held.tail_is)
+
     -- its level number is what it is after it was seen
     in_walk : (j : ℕ) → number_in v (see v so).queue ≡ suc j → number_in v (walk g).queue ≡ suc j
     in_walk j e = ap (λ (x : Walk). number_in v x.queue) onto.is ∙ number_in_lem v j (see v so).queue onto.more.queue e

@@ -5,15 +5,15 @@ use native.Mathlib.Decide.{dec_le}
 use native.Mathlib.Omega.{arith}
 use native.Mathlib.Numerals.{add-one}
 use mathlib.Core.Path.{◌≡◌, refl, sym, ap, ◌∙◌}
-use mathlib.Core.Bool.{Bool, true, false}
+use mathlib.Core.Bool.{Bool, true, false, ◌&&◌}
 use mathlib.Core.List.{List, [], ◌∷◌}
 use mir.Val.{bool_byte}
 use lib.Dec.{eqb, leb, lit≤}
-use lib.ListN.{length, get_or, drop}
+use lib.ListN.{length, get_or, drop, drop_of_length-le}
 use lib.Seq.{drop-cons, get_or-take}
 use borrow.Author.Tests.{eqb-true, eqb-false, eq-eqb, ne_eqb, le-leb, leb-true}
 use borrow.Author.Count.{below_none, below_more}
-use Rattle.format.specs.Lists.{bit, count_in, spread, up, Below}
+use Rattle.format.specs.Lists.{bit, count_in, every, spread, up, Below}
 use Rattle.format.specs.Trits.{rank, untrytes, tryte_count}
 use Rattle.format.specs.Image.{until_zero, node_count, root_count, edge_count}
 use Rattle.format.specs.Proper.{bytes_low, padded, roots_first, balanced, grown, limits, contents_fault1, OwnRules}
@@ -26,6 +26,21 @@ use Rattle.trits.specs.Search.{Tryte}
 use Rattle.trits.proofs.Trytes.{rank_more}
 use Rattle.samples.specs.Lent.{TritsIn}
 use Rattle.proper.specs.FirstSays.{Ballot}
+
+-- ---- a test over what is left of a list
+
+module _ (f : ℕ → Bool) (xs : List ℕ) (p : ℕ) where
+  step : p < length xs → every f (drop p xs) ≡ (f (get_or xs p 0) && every f (drop (p + 1) xs))
+  step h = rw (add-one, drop-cons xs p 0)
+
+  pub every_more : p < length xs → f (get_or xs p 0) ≡ true → every f (drop p xs) ≡ every f (drop (p + 1) xs)
+  every_more h e = step h ∙ ap (λ (b : Bool). b && every f (drop (p + 1) xs)) e
+
+  pub every_stop : p < length xs → f (get_or xs p 0) ≡ false → every f (drop p xs) ≡ false
+  every_stop h e = step h ∙ ap (λ (b : Bool). b && every f (drop (p + 1) xs)) e
+
+  pub every_end : length xs ≤ p → every f (drop p xs) ≡ true
+  every_end h = ap (every f) (drop_of_length-le xs h)
 
 -- ---- trits by place
 

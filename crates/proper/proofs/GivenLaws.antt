@@ -1,8 +1,9 @@
 -- The counts and sizes that code has for sections 3 to 9 are those of the definitions. Assumes nothing.
-use Prim.Native.Nat.{ℕ, ◌+◌, ◌*◌, ◌/◌, ◌≤◌}
+use Prim.Native.Nat.{ℕ, ◌+◌, ◌*◌, ◌/◌, ◌≤◌, ◌<◌}
 use native.Mathlib.Omega.{arith}
 use mathlib.Core.Path.{◌≡◌, refl, sym, ap, ◌∙◌}
 use mathlib.Core.List.{List, ◌∷◌}
+use lib.Dec.{lit<}
 use lib.ListN.{length}
 use Rattle.format.specs.Lists.{run, count_in, up}
 use Rattle.format.specs.Image.{node_count, grouped, marked, marked_nodes, mark_words, starts, mark_samples, last_multiple, given, section3, section4, section5, section7, section8, section9, Section}
@@ -45,6 +46,11 @@ unfolding marked_nodes
 marked_few trits H = omega (arith, length_keep (marked H) (run 1 (node_count trits)), length_run 1 (node_count trits))
 
 -- ---- sections 6, 7 and 8
+
+pub sampling_small : {i step fan width : ℕ} → Sampling i step fan width → {l : ℕ} → l ≤ 125536 → (0 < step) × (l / step ≤ 125536) × (width * (2 * (l / step + 1)) ≤ 1004296)
+sampling_small far h = (lit< tt, omega arith, omega arith)
+sampling_small middle h = (lit< tt, omega arith, omega arith)
+sampling_small near h = (lit< tt, omega arith, omega arith)
 
 module _ (trits : List ℕ) where
   pub front_samples : (step fan width : ℕ) {l : ℕ} → length trits ≡ l → Front (sample_section step fan width trits) (l / step + 1) (width * (2 * (l / step + 1)))

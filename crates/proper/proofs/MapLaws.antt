@@ -51,6 +51,9 @@ pub record Filled (hs : List ℕ) (i : ℕ) (ws : List ℕ) : Type 0 where
   pub long : length ws ≡ 469
   pub marks_are : (trits H : List ℕ) → Shadowed trits H hs → MarkMap (take i H) ws
 
+pub filled_none : {hs ws : List ℕ} → MarkMap [] ws → Filled hs 0 ws
+filled_none m = record { long = m.long; marks_are = λ trits H s. m }
+
 pub filled_more : {hs ws : List ℕ} {i h r : ℕ} → Filled hs i ws → i < length hs / 2 → 1 ≤ h → h ≤ 30000 → ((trits H : List ℕ) → Shadowed trits H hs → h ≡ get_or H i 0)
     → BitSet (get_or ws ((h - 1) / 64) 0) ((h - 1) % 64) r → Filled hs (i + 1) (set ws ((h - 1) / 64) r)
 filled_more {hs} {ws} {i} {h} {r} f l low high is now = record {

@@ -1,6 +1,6 @@
 -- Sections 6, 7 and 8 pair by pair: the counts at a sample are its pair, so a section is right exactly if every pair holds its counts. Assumes nothing.
 use Prim.Native.Nat.{ℕ, ◌+◌, ◌*◌, ◌/◌, ◌^◌, ◌≤◌, ◌<◌}
-use native.Mathlib.Nat.{add-zero, mul-le-mul_left, zero-mod}
+use native.Mathlib.Nat.{add-zero, mul-suc, mul_comm, mul-le-mul_left, zero-mod}
 use native.Mathlib.Decide.{ℕ_discrete}
 use native.Mathlib.Omega.{arith}
 use mathlib.Core.Path.{◌≡◌, refl, sym, ap, ◌∙◌}
@@ -43,6 +43,12 @@ width_some {w} h = elim (ℕ_discrete w 4) [
     | no m ↦ omega (arith, h n m)
   ]
 ]
+
+pub number_room : (w i n : ℕ) {size : ℕ} → i < n → w * n ≤ size → w * i + w ≤ size
+number_room w i n h l = omega (arith, mul-le-mul_left w h, mul-suc w i)
+
+pub small_pair : {w : ℕ} (q : ℕ) {size : ℕ} → Width w → w * (2 * (q + 1)) ≤ size → 2 * (q + 1) ≤ size
+small_pair {w} q h l = omega (arith, mul-le-mul_left (2 * (q + 1)) (width_some h), mul_comm w (2 * (q + 1)), mul-suc (2 * (q + 1)) 0)
 
 -- ---- two tests
 

@@ -1,6 +1,6 @@
 -- The twos before a place, counted tryte by tryte from the nearest sample. Assumes nothing.
 use Prim.Native.Nat.{ℕ, ◌+◌, ◌-◌, ◌*◌, ◌/◌, ◌%◌, ◌^◌, ◌≤◌, ◌<◌, min}
-use native.Mathlib.Nat.{mul-zero, mul-one, mul_comm, mul-add, lt_of_mul-lt-mul_left, mul-div-le, lt-mul-div-succ, div-lt_iff_lt-mul, le-div_iff_mul-le, mod-le}
+use native.Mathlib.Nat.{mul-zero, mul-one, mul_comm, mul-add, mul-le-mul_left, lt_of_mul-lt-mul_left, mul-div-le, lt-mul-div-succ, div-lt_iff_lt-mul, le-div_iff_mul-le, mod-le}
 use native.Mathlib.Omega.{arith}
 use mathlib.Core.Path.{◌≡◌, refl, sym, ap, ◌∙◌}
 use mathlib.Core.Bool.{Bool, true, false}
@@ -69,6 +69,9 @@ front_twos x r l h =
 module _ {l step : ℕ} (S : Spaced l step) where
   pub last_low : (l / 5 + 6) / step < 2048
   last_low = (div-lt_iff_lt-mul {k = step} {x = l / 5 + 6} {y = 2048} S.some).1 S.enough
+
+  pub last_spot : (i : ℕ) → i ≤ (l / 5 + 6) / step → step * i ≤ l / 5 + 6
+  last_spot i h = omega (arith, mul-le-mul_left step h, mul-div-le (l / 5 + 6) step)
 
 -- 8 or 13 trytes from sample to sample
 pub spaced : {l : ℕ} → l ≤ 125536 → Spaced l (step_for l)

@@ -8,18 +8,19 @@ use mathlib.Core.List.{List, [], ◌∷◌, ◌++◌, append-nil, append_assoc, 
 use lib.Dec.{lit<, lit≤}
 use lib.ListN.{length, get_or, take, drop, length-take, length-drop, length-append}
 use lib.Seq.{take-append-le, drop-append-le, take-append_seam, drop-append-add, ext_get_or, get_or-take, get_or-drop}
-use Rattle.format.specs.Lists.{run, each, join, spread, up}
-use Rattle.format.specs.Trits.{rank, trytes, tryte_count}
+use Rattle.format.specs.Lists.{run, each, join, low_digits, spread, up}
+use Rattle.format.specs.Trits.{rank, trytes, tryte_count, tryte_table}
 use Rattle.format.specs.Image.{le_bytes, bytes, pair, pairs, last_multiple, section6}
 use Rattle.format.proofs.Laws.{rank_le, run_snoc, join_append, length_run}
 use Rattle.format.proofs.Digits.{gather_at, horner_lt, below_block, length_digits, length_block, length_blocks, lt_up}
 use Rattle.format.proofs.Select.{rank_tryte}
+use Rattle.format.proofs.Tryte.{tryte_entry}
 use Rattle.format.proofs.Sizes.{length_trytes, length_bytes, length_pairs}
 use Rattle.format.proofs.ImageReads.{pairs_at}
 use Rattle.trits.specs.declared.Ranks.{Ranks}
 use Rattle.trits.specs.Search.{front_of}
 use Rattle.little.specs.Put.{put_at}
-use Rattle.little.proofs.Laws.{put_more, bytes_append}
+use Rattle.little.proofs.Laws.{put_more, put_before, bytes_append}
 use Rattle.samples.specs.declared.Counts.{Counts}
 use Rattle.samples.specs.Lent.{TritsIn, TritsAt}
 use Rattle.samples.specs.Samples.{Sampling, far, middle, near, sample_section, Paced, Plan, CountedFrom, Counting, Step}
@@ -30,6 +31,9 @@ module _ {trits bs : List ℕ} (T : TritsIn trits bs) (i : ℕ) (l : 5 * i + 5 �
   held : i < up (length trits) 5
   held = lt_up (length trits) 5 (lit< tt) i (omega arith)
 
+  inside : i < length bs
+  inside = omega (arith, held, length_trytes trits, ap length T.trytes_are)
+
   low : get_or bs i 0 < 243
   unfolding trytes
   low =
@@ -37,8 +41,8 @@ module _ {trits bs : List ℕ} (T : TritsIn trits bs) (i : ℕ) (l : 5 * i + 5 �
       rw T.trytes_are (omega (arith, gather_at 3 5 trits i held, horner_lt 3 5 b (lit< tt) (below_block 3 5 (lit< tt) (lit< tt) trits T.threes i) (length_block 3 5 (lit< tt) (lit< tt) trits i)))
 
   -- it can be looked up, and the counts are small
-  tryte_room : {start zeros ones : ℕ} → CountedFrom trits start (5 * i) zeros ones → (get_or bs i 0 < 243) × (zeros ≤ 125536) × (ones ≤ 125536)
-  tryte_room c = (low, omega (arith, T.few, c.zeros_are, rank_le 0 trits (5 * i)), omega (arith, T.few, c.ones_are, rank_le 1 trits (5 * i)))
+  pub tryte_room : {start zeros ones : ℕ} → CountedFrom trits start (5 * i) zeros ones → (i < length bs) × (get_or bs i 0 < 243) × (zeros ≤ 125536) × (ones ≤ 125536)
+  tryte_room c = (inside, low, omega (arith, T.few, c.zeros_are, rank_le 0 trits (5 * i)), omega (arith, T.few, c.ones_are, rank_le 1 trits (5 * i)))
 
   -- rank grows by the tryte's count
   rank_on : (t : ℕ) → rank t trits (5 * (i + 1)) ≡ rank t trits (5 * i) + tryte_count t (get_or bs i 0) 5
@@ -46,12 +50,26 @@ module _ {trits bs : List ℕ} (T : TritsIn trits bs) (i : ℕ) (l : 5 * i + 5 �
       let e : 5 * (i + 1) ≡ 5 * i + 5 = omega arith in
       rw (T.trytes_are, e) (rank_tryte t trits T.threes i 5 (lit≤ tt) l)
 
-  -- its zeros and ones
-  count_on : {x start zeros ones : ℕ} {more : Ranks} → x ≡ get_or bs i 0 → more ≡ front_of x 5
+  -- a table entry's zeros and ones
+  pub count_on : {table : List ℕ} → table ≡ tryte_table → {x e start zeros ones : ℕ} → x ≡ get_or bs i 0 → e ≡ get_or table x 0
+      → CountedFrom trits start (5 * i) zeros ones → CountedFrom trits start (5 * (i + 1)) (zeros + e % 8) (ones + e / 8)
+  unfolding tryte_count rank
+  count_on {table} is {x} ex ee c =
+      let entry : get_or table x 0 ≡ tryte_count 0 x 5 + 8 * tryte_count 1 x 5 = ap (λ (l : List ℕ). get_or l x 0) is ∙ tryte_entry x (omega (arith, low)) in
+      let few : tryte_count 0 x 5 ≤ 5 = rank_le 0 (low_digits 3 5 x) 5 in
+      let on : (t : ℕ) → rank t trits (5 * (i + 1)) ≡ rank t trits (5 * i) + tryte_count t x 5 = rw ex rank_on in
+      record { zeros_are = omega (arith, entry, on 0, c.zeros_are); ones_are = omega (arith, entry, on 1, c.ones_are) }
+
+  -- the same by its ranks
+  count_front : {x start zeros ones : ℕ} {more : Ranks} → x ≡ get_or bs i 0 → more ≡ front_of x 5
       → CountedFrom trits start (5 * i) zeros ones → CountedFrom trits start (5 * (i + 1)) (zeros + more.zeros) (ones + more.ones)
-  count_on {x} ex em c =
+  count_front {x} ex em c =
       let on : (t : ℕ) → rank t trits (5 * (i + 1)) ≡ rank t trits (5 * i) + tryte_count t x 5 = rw ex rank_on in
       rw em (record { zeros_are = omega (arith, on 0, c.zeros_are); ones_are = omega (arith, on 1, c.ones_are) })
+
+-- what is put from `at` on leaves section 1 as it was
+pub trits_stay : {trits old image : List ℕ} {a e at : ℕ} (vs : List ℕ) → TritsAt trits old a e at → at ≤ length old → image ≡ put_at old at vs → TritsIn trits (take (e - a) (drop a image))
+trits_stay {old = old} {a = a} {e} {at} vs T fits put = rw (put, put_before a (e - a) at old vs (omega (arith, T.rises, T.before)) fits) T.trits_in
 
 -- ---- an image, cut where a section's contents start
 
@@ -124,10 +142,10 @@ module _ {trits bs : List ℕ} {many fan q : ℕ} {c : Counts} (S : Step trits b
   module _ {i x zeros ones : ℕ} (l : i < many) (ex : x ≡ get_or bs (many * q + i) 0)
       (h : CountedFrom trits (5 * many * (q - c.steps)) (5 * (many * q + i)) zeros ones) where
     pub step_low : (x < 243) × (zeros ≤ 125536) × (ones ≤ 125536)
-    step_low = rw ex (tryte_room S.trits_in (many * q + i) (omega (arith, S.inside)) h)
+    step_low = let r = tryte_room S.trits_in (many * q + i) (omega (arith, S.inside)) h in rw ex (r.1, r.2, r.3)
 
     pub step_more : {more : Ranks} → more ≡ front_of x 5 → CountedFrom trits (5 * many * (q - c.steps)) (5 * (many * q + (i + 1))) (zeros + more.zeros) (ones + more.ones)
-    step_more em = rw (← add_assoc) (count_on S.trits_in (many * q + i) (omega (arith, S.inside)) ex em h)
+    step_more em = rw (← add_assoc) (count_front S.trits_in (many * q + i) (omega (arith, S.inside)) ex em h)
 
   pub step_ends : {i : ℕ} {d : Counts} → (c.steps + 1 ≡ fan → ⊥) → d.steps ≡ c.steps + 1 → i ≡ many → CountedFrom trits (5 * many * (q - c.steps)) (5 * (many * q + i)) d.zeros d.ones
       → Counting trits (5 * many) fan (q + 1) d

@@ -76,10 +76,10 @@ module _ {b : List ℕ} {s : Samples} (above : Spot) {t j : ℕ} (S : Sampled b 
   starts len o l f r = record { from = omega arith; some = o; to = l; within = omega arith; between = sooner in_steps r }
 
   -- fan multiples, or as many as there are
-  starts_whole : s.fan ≤ s.last - first → Halving t xs j s.step first s.fan s.last first s.fan above.before
+  pub starts_whole : s.fan ≤ s.last - first → Halving t xs j s.step first s.fan s.last first s.fan above.before
   starts_whole h = starts s.fan S.fans (omega (arith, first_last)) (omega arith) in_steps.reached
 
-  starts_cut : s.last - first < s.fan → Halving t xs j s.step first s.fan s.last first (s.last - first + 1) above.before
+  pub starts_cut : s.last - first < s.fan → Halving t xs j s.step first s.fan s.last first (s.last - first + 1) above.before
   starts_cut h =
       let e : first + (s.last - first + 1) ≡ s.last + 1 = omega (arith, first_last) in
       starts (s.last - first + 1) (omega arith) (omega arith) (omega arith)
@@ -115,3 +115,7 @@ module _ {t : ℕ} {xs : List ℕ} {j step first fan last lo len n x : ℕ} (v :
         within = omega arith;
         between = sooner v.between (omega (arith, rank_mono t xs (step * (lo + len / 2)) (step * (lo + (len - len / 2))) (mul-le-mul_left step (omega arith))));
       }
+
+pub halved : {t : ℕ} {xs : List ℕ} {j step first fan last lo len n : ℕ} → Halving t xs j step first fan last lo len n → len ≤ 1
+    → Spotted step t xs j (record { at = lo; before = n })
+halved {t} {xs} {j} {step} {len = len} {n = n} v h = let e : 1 ≡ len = omega arith in rw e v.between

@@ -6,7 +6,7 @@ use native.Mathlib.Omega.{arith}
 use mathlib.Core.Path.{◌≡◌, sym, ap, ◌∙◌}
 use mathlib.Core.List.{List, append-nil}
 use lib.ListN.{length, get_or, take, drop, set, length-set, length-append, length-drop, drop_of_length-le, take-append-drop}
-use lib.Seq.{paste, paste-zero, paste-suc, take_all, set_comm, length-take-le, take_at, drop_at, drop-drop}
+use lib.Seq.{paste, paste-zero, paste-suc, length-paste, take_all, set_comm, length-take-le, take_at, drop_at, drop-drop}
 use Rattle.format.specs.Lists.{over, one_to}
 use Rattle.format.proofs.Laws.{length_run, get_or_run}
 use Rattle.little.specs.Put.{put_at}
@@ -71,6 +71,9 @@ pub listed_none : (old : List ℕ) → Listed old old 0
 listed_none old = record { upto = omega arith; are = paste-zero old 0 (one_to (length old)) }
 
 module _ {old table : List ℕ} {i : ℕ} (r : Listed old table i) where
+  pub listed_length : length table ≡ length old
+  listed_length = ap length r.are ∙ length-paste old 0 (one_to (length old)) i (omega (arith, r.upto)) (omega (arith, length_run 1 (length old), r.upto))
+
   pub listed_next : i < length old → Listed old (set table i (i + 1)) (i + 1)
   listed_next h =
       let n : ℕ = length old in
