@@ -1,5 +1,6 @@
 -- What the checker's steps know and answer, section by section. Assumes nothing.
 use Rattle.std.specs.Prelude.{ℕ, ◌+◌, ◌≤◌, ◌≡◌, List, ◌∷◌, eqb, length, drop, Result, Ok, Err}
+use Rattle.std.specs.Borrow.{Bor}
 use Rattle.format.specs.Faults.{fault, ◌then◌}
 use Rattle.format.specs.Lists.{count_in, up}
 use Rattle.format.specs.Trits.{untrytes}
@@ -12,10 +13,10 @@ use Rattle.trits.specs.declared.image.Image.{Image}
 use Rattle.trits.specs.Layout.{layout_of, laying}
 use Rattle.proper.specs.Known.{Marked}
 
--- the image in b if it is proper, or the number of its first fault
-abbrev pub Examined : List ℕ → Result Image Refusal → Type 0
-Examined b (Ok i) = (check_image b ≡ 0) × (i.bytes.now ≡ b) × (i.lay ≡ layout_of b)
-Examined b (Err f) = check_image b ≡ refusal_number f
+-- the image in the lent bytes b if it is proper, or the number of its first fault
+abbrev pub Examined : Bor (List ℕ) → Result Image Refusal → Type 0
+Examined b (Ok i) = (check_image b.now ≡ 0) × (i.bytes ≡ b) × (i.lay ≡ layout_of b.now)
+Examined b (Err f) = check_image b.now ≡ refusal_number f
 
 -- x is the checker's number, and lay the layout of a proper image
 abbrev pub Examines : ℕ → Layout → Result Layout Refusal → Type 0

@@ -177,7 +177,7 @@ fn from2<'a>(bs: &'a [u8], rest: &'a [u8], l: usize, sizes: Sizes) -> Result<Lay
 
 // The image in these bytes if it is proper, or its first fault.
 pub fn examine<'a>(bytes: &'a [u8]) -> Result<Image<'a>, Refusal>
-    ensures { Examined bytes.now result }
+    ensures { Examined bytes.entry result }
 {
     let l = count(bytes)?;
     if l > MAX_TRITS {

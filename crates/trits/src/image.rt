@@ -22,7 +22,7 @@ impl<'a> Image<'a> {
     // The image in bytes that the check accepts, with their layout.
     pub fn of(bytes: &'a [u8], lay: Layout) -> Image<'a>
         requires { (check_image bytes.now ≡ 0) × (lay ≡ layout_of bytes.now) }
-        ensures { (result.bytes.now ≡ bytes.now) × (result.lay ≡ lay) }
+        ensures { (result.bytes ≡ bytes.entry) × (result.lay ≡ lay) }
     {
         Image { bytes, lay }
     }

@@ -1,5 +1,5 @@
 -- A refused image, a table too short, or the table.
-use Rattle.std.proofs.Common.{ℕ, ap, ◌∙◌, List, arith}
+use Rattle.std.proofs.Common.{ℕ, ap, ◌∙◌, Bor, List, arith}
 use Rattle.format.specs.Lists.{over}
 use Rattle.format.proofs.Handed.{handed}
 use Rattle.unpacking.specs.Standing.{table_of}
@@ -19,4 +19,4 @@ pub returns : goal.returns
 returns c =
     let L = rw c.in_ok-image.ensures.1 at c.in_ok-image.image.laid in
     unpack_whole L c.args.table.now (omega arith) c.put_table.new.table
-    (c.put_table.ensures ∙ ap (λ (b : List ℕ). over (table_of b) c.args.table.now) c.in_ok-image.ensures.1)
+    (c.put_table.ensures ∙ ap (λ (b : Bor (List ℕ)). over (table_of b.now) c.args.table.now) c.in_ok-image.ensures.1)
