@@ -41,7 +41,7 @@ pub record Opened (code entries size : ℕ) (b part rest : List ℕ) : Type 0 wh
 
 -- b begins with section s, and rest follows it
 abbrev pub SectionPasses : Section → List ℕ → List ℕ → Type 0
-SectionPasses s b rest = (ss : List Section) → check_given ss rest ≡ check_given (s ∷ ss) b
+SectionPasses s b rest = (rest ≡ rest_of (length s.contents) b) × ((ss : List Section) → check_given ss rest ≡ check_given (s ∷ ss) b)
 
 -- ---- sections 2 to 9, once section 1 has passed
 

@@ -24,7 +24,7 @@ returns-in_err-after7 c =
     let few = t.trits_in.few in
     rw (handed c.from_residual-in_err-after7.ensures.1) (λ H C.
     c.in_err-after7.ensures _ ∙ check_samples (trits_in t) H few middle _
-    ∙ c.in_ok-after6.ensures (given_from 4 (trits_in t) H) ∙ check_samples (trits_in t) H few far _)
+    ∙ c.in_ok-after6.ensures.1 (given_from 4 (trits_in t) H) ∙ check_samples (trits_in t) H few far _)
 
 pub sample_section-requires-3 : goal.sample_section-requires-3
 sample_section-requires-3 c = (2, near)
@@ -35,14 +35,14 @@ returns-in_err-after8 c =
     let few = t.trits_in.few in
     rw (handed c.from_residual-in_err-after8.ensures.1) (λ H C.
     c.in_err-after8.ensures _ ∙ check_samples (trits_in t) H few near _
-    ∙ c.in_ok-after7.ensures (given_from 5 (trits_in t) H) ∙ check_samples (trits_in t) H few middle _
-    ∙ c.in_ok-after6.ensures (given_from 4 (trits_in t) H) ∙ check_samples (trits_in t) H few far _)
+    ∙ c.in_ok-after7.ensures.1 (given_from 5 (trits_in t) H) ∙ check_samples (trits_in t) H few middle _
+    ∙ c.in_ok-after6.ensures.1 (given_from 4 (trits_in t) H) ∙ check_samples (trits_in t) H few far _)
 
 pub returns : goal.returns
 returns c H C =
     let t = c.args.trits.now in
     let few = t.trits_in.few in
     c.from9.ensures (trits_in t) H C.marked (counted_nodes C)
-    ∙ c.in_ok-after8.ensures (given_from 6 (trits_in t) H) ∙ check_samples (trits_in t) H few near _
-    ∙ c.in_ok-after7.ensures (given_from 5 (trits_in t) H) ∙ check_samples (trits_in t) H few middle _
-    ∙ c.in_ok-after6.ensures (given_from 4 (trits_in t) H) ∙ check_samples (trits_in t) H few far _
+    ∙ c.in_ok-after8.ensures.1 (given_from 6 (trits_in t) H) ∙ check_samples (trits_in t) H few near _
+    ∙ c.in_ok-after7.ensures.1 (given_from 5 (trits_in t) H) ∙ check_samples (trits_in t) H few middle _
+    ∙ c.in_ok-after6.ensures.1 (given_from 4 (trits_in t) H) ∙ check_samples (trits_in t) H few far _

@@ -1,5 +1,6 @@
 -- The section is the pairs that its trits give.
 use Rattle.std.proofs.Common.{◌∙◌, ◌*◌, ◌+◌, ◌/◌, ℕ, sym, ap}
+use Rattle.format.specs.Proper.{rest_of}
 use Rattle.format.proofs.Handed.{handed}
 use Rattle.samples.specs.Samples.{sample_section}
 use Rattle.proper.specs.Held.{trits_in}
@@ -31,4 +32,8 @@ returns-then-not-samples_right c ss =
 
 pub returns : goal.returns
 unfolding sample_section
-returns c ss = contents_passed (front (goal.at.returns c).Start) ss _ c.in_ok-part.ensures c.samples_right.ensures c.if-not-samples_right.false
+returns c =
+    let F = front (goal.at.returns c).Start in (
+      c.in_ok-part.ensures.cut.rest_is ∙ ap (λ (k : ℕ). rest_of k c.args.rest.now) (sym F.fills),
+      λ ss. contents_passed F ss _ c.in_ok-part.ensures c.samples_right.ensures c.if-not-samples_right.false,
+    )
