@@ -30,7 +30,12 @@ struct Count {
 fn bytes_low(bs: &[u8]) -> bool
     ensures { result ≡ bytes_low bs.now }
 {
-    bs.iter().all(|b| *b <= 242)
+    for &b in bs {
+        if b > 242 {
+            return false;
+        }
+    }
+    true
 }
 
 // Whether the trits of the bytes past the first `l` are 0.

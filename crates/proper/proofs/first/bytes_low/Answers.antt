@@ -1,19 +1,21 @@
--- The chain's test of all bytes is the definition's.
-use Rattle.std.proofs.Common.{ℕ, Bool, leb, List, [], ◌∷◌, ◌≡◌, ◌&&◌, ◌∙◌, refl, ap, rules, tests}
-use Rattle.std.specs.List.{list_all}
-use Rattle.std.proofs.lemmas.Iterator.{YieldsList-from_slice}
-use Rattle.std.proofs.lemmas.Iterator.Search.{all_from_yields_List}
-use Rattle.format.specs.Lists.{every}
+-- A byte above 242 ends the test.
+use Rattle.std.proofs.Common.{◌∙◌, refl, sym, arith}
+use borrow.Author.Tests.{le-leb, lt-leb}
 use Rattle.format.specs.Proper.{bytes_low}
+use Rattle.proper.proofs.FirstLaws.{every_more, every_stop, every_end}
 use Rattle.proper.proofs.first.bytes_low.Goals as goal
 
-all_every : (f : ℕ → Bool) (xs : List ℕ) → list_all f xs ≡ every f xs
-all_every f [] = refl
-all_every f (x ∷ xs) = ap (λ (b : Bool). f x && b) (all_every f xs)
+pub loop-b-init : goal.loop-b-init
+unfolding bytes_low
+loop-b-init c = refl
+
+pub returns-then-b-gt242 : goal.returns-then-b-gt242
+returns-then-b-gt242 c =
+    sym (c.loop-b.invariant ∙ every_stop _ c.args.bs.now c.loop-b.b-index c.loop-b-test.true (lt-leb _ 242 (omega arith)))
+
+pub loop-b-preserved : goal.loop-b-preserved
+loop-b-preserved c =
+    c.loop-b.invariant ∙ every_more _ c.args.bs.now c.loop-b.b-index c.loop-b-test.true (le-leb _ 242 (omega arith))
 
 pub returns : goal.returns
-unfolding bytes_low
-returns c =
-    let bs = c.args.bs.now in
-    all_from_yields_List (λ x. leb x 242) _ _ _ c.all.ensures.ran (YieldsList-from_slice bs cc) (λ x b q k. search (rules, tests))
-    ∙ all_every (λ x. leb x 242) bs
+returns c = sym (c.loop-b.invariant ∙ every_end _ c.args.bs.now c.loop-b.b-index (omega arith))
