@@ -98,19 +98,18 @@ fn drawn_packed(rt: &impl Print) -> io::Result<()> {
 }
 
 // The table of 30,000 nodes, all roots, no edges.
-fn many() -> [u16; 60002] {
-    let mut table = [0; 60002];
+fn many(table: &mut [u16; 60002]) {
     table[0] = 30000;
     table[30001] = 30000;
     for (root, i) in table[30002..].iter_mut().zip(1..) {
         *root = i;
     }
-    table
 }
 
 // That table, packed.
 fn many_packed(rt: &impl Print) -> io::Result<()> {
-    let table = many();
+    let mut table = [0; 60002];
+    many(&mut table);
     let mut order = [0u16; 30000];
     let mut work = [0u32; 90000];
     let mut image = [0u8; 30000];
